@@ -1,0 +1,6 @@
+use Rattle.std.proofs.Common.{◌≡◌, ◌++◌, drop}
+use Rattle.edt_base.specs.IndexData.{entries_from, label_entries}
+use Rattle.edt_base.proofs.index.list_labels.Given as goal
+
+abbrev pub invariant-loop-i : goal.invariant-loop-i
+invariant-loop-i l = l.labels.items ++ entries_from label_entries l.i (drop l.i l.nodes) ≡ entries_from label_entries 0 l.nodes

@@ -1,0 +1,14 @@
+pub mod BoundData
+pub mod BoundNodeData
+pub mod Cells
+pub mod EntryData
+pub mod FaultText
+pub mod IndexData
+pub mod InstData
+pub mod Memory
+pub mod NodeData
+pub mod Outside
+pub mod PropData
+pub mod TreeData
+pub mod ValData
+pub mod YamlData

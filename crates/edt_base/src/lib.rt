@@ -1,0 +1,28 @@
+//! The data that all layers share: texts and bytes, faults and their places, and the traits of the
+//! outside with the objects in memory that have them.
+#![tactic(auto)]
+
+mod bound;
+mod bytes;
+mod fault;
+mod index;
+mod memory;
+mod node;
+mod outside;
+mod text;
+mod tree;
+mod tree_laws;
+mod words;
+mod yaml;
+
+pub use bound::{Bound, BoundNode, Entry, Inst, Irq, Prop, PropType, Range, Reg, Val};
+pub use bytes::Bytes;
+pub use fault::{End, Fault, Place, Rule};
+pub use memory::{GoodFiles, MemFiles, MemSink, NullSink};
+pub use node::{FileNo, Kind, NodeId, NodeRec, Part, PropVal};
+pub use outside::{Call, Files, ReadEnd, Sink, WriteFailed, is_binding_below, write_text};
+pub use text::Text;
+pub use tree::Tree;
+pub use tree_laws::a_root_alone_is_well_formed;
+pub use words::Words;
+pub use yaml::Yaml;

@@ -1,0 +1,185 @@
+//! A node of the tree with its properties.
+
+ghost use Rattle.std.specs.Prelude.{◌≡◌, ◌+◌, ◌<◌, ◌≤◌, ◌++◌, IfSome, IfNone, option_map, length, take};
+ghost use Rattle.edt_base.specs.NodeData.{prop_of, one_cell, phandle_of, is_cells};
+
+use crate::{Bytes, Text};
+use indexmap::IndexMap;
+use std::marker::Model;
+
+/// A node's place among the tree's nodes, which stand in preorder. The root's is 0.
+#[derive(Clone, Copy, Debug, PartialEq, Eq, PartialOrd, Ord, Hash)]
+pub struct NodeId(pub u32);
+
+impl Model for NodeId {
+    ghost use Rattle.std.specs.Prelude.{ℕ};
+
+    ghost Value = { ℕ };
+
+    ghost view = { λ n. n.0 };
+
+    ghost inverse = { λ n. record { 0 = n } };
+}
+
+/// A file's place in a list of files.
+#[derive(Clone, Copy, Debug, PartialEq, Eq, PartialOrd, Ord, Hash)]
+pub struct FileNo(pub u32);
+
+impl Model for FileNo {
+    ghost use Rattle.std.specs.Prelude.{ℕ};
+
+    ghost Value = { ℕ };
+
+    ghost view = { λ n. n.0 };
+
+    ghost inverse = { λ n. record { 0 = n } };
+}
+
+/// How a part of a value was written (Devicetree Specification v0.4, 6.3).
+#[derive(Clone, Copy, Debug, PartialEq, Eq)]
+pub enum Kind {
+    /// A text in quotes; its bytes end with a zero.
+    Str,
+    /// Cells of 32 bits, 4 bytes each, the big end first.
+    Cells,
+    /// Bytes: pairs of hexadecimal digits, or elements of 8 bits.
+    Hex,
+    /// Elements of 16 or 64 bits, the big end first.
+    Wide,
+    /// The path of a node that a reference names, and a zero.
+    Path,
+}
+
+/// A part of a property's value, as it stands between two commas.
+#[derive(Debug, Drop)]
+pub struct Part {
+    /// How it was written.
+    pub kind: Kind,
+    /// What it stands for.
+    pub bytes: Bytes,
+}
+
+/// A property's value: its parts in order, none for a property without a value.
+#[derive(Debug, Drop)]
+pub struct PropVal {
+    /// The parts.
+    pub parts: Vec<Part>,
+}
+
+impl Model for PropVal {
+    ghost use Rattle.std.specs.Prelude.{List};
+    ghost use Rattle.edt_base.specs.declared.node.Part.{Part};
+
+    ghost Value = { List Part };
+
+    ghost view = { λ p. p.parts.items };
+}
+
+/// A node. Contracts see it as the plain `NodeData`.
+#[derive(Debug, Drop)]
+pub struct NodeRec {
+    /// The name with its unit address; the root's is `/`.
+    pub name: Text,
+    /// The path from the root.
+    pub path: Text,
+    /// The node that it stands in; the root has none.
+    pub parent: Option<NodeId>,
+    /// The nodes that stand in it.
+    pub children: Vec<NodeId>,
+    /// The labels.
+    pub labels: Vec<Text>,
+    /// The properties by name, in order.
+    pub props: IndexMap<Text, PropVal>,
+    /// The strings of `compatible`, in order.
+    pub compats: Vec<Text>,
+    /// The string of `status`.
+    pub status: Text,
+}
+
+impl Model for NodeRec {
+    ghost use Rattle.edt_base.specs.NodeData.{NodeData};
+
+    ghost Value = { NodeData };
+
+    ghost view = { λ n. record {
+      name = n.name;
+      path = n.path;
+      parent = n.parent;
+      children = n.children.items;
+      labels = n.labels.items;
+      props = n.props.entries;
+      compats = n.compats.items;
+      status = n.status;
+    } };
+}
+
+impl NodeRec {
+    /// The value of the property of this name; None exactly where the node has no such property.
+    /// Takes no memory.
+    pub fn prop(&self, name: &str) -> Option<&PropVal>
+        ensures { option_map (λ v. v.now) result ≡ prop_of name.now self.now.props }
+    {
+        for (key, value) in self.props.iter() {
+            if key.as_str() == name {
+                return Some(value);
+            }
+        }
+        None
+    }
+
+    /// The number of the property `phandle` where that is one cell, else none. Takes no memory.
+    pub(crate) fn phandle(&self) -> Option<u32>
+        ensures { result ≡ phandle_of self.now }
+    {
+        cell_in(self.prop("phandle")?.parts.as_slice())
+    }
+}
+
+impl Part {
+    // It is of cells.
+    fn is_cells(&self) -> bool
+        ensures { result ≡ is_cells self.now.kind }
+    {
+        match self.kind {
+            Kind::Cells => true,
+            _ => false,
+        }
+    }
+}
+
+// The number of a value that is one cell.
+fn cell_in(parts: &[Part]) -> Option<u32>
+    ensures { result ≡ one_cell parts.now }
+{
+    let mut cell = [0; 4];
+    let mut filled = 0;
+    for part in parts {
+        if !part.is_cells() {
+            return None;
+        }
+        filled = fill(&mut cell, filled, part.bytes.as_slice())?;
+    }
+    if filled == 4 {
+        Some(u32::from_be_bytes(cell))
+    } else {
+        None
+    }
+}
+
+// Puts bytes behind those that a cell has so far, and says how many it has then; None where they are
+// too many.
+fn fill(cell: &mut [u8; 4], filled: usize, bytes: &[u8]) -> Option<usize>
+    requires { filled ≤ 4 }
+    ensures fits { IfSome result (λ n. (n ≤ 4) × (take n cell.new ≡ take filled cell.old ++ bytes.now)) }
+    ensures full { IfNone result (4 < filled + length bytes.now) }
+{
+    let mut end = filled;
+    for byte in bytes {
+        if end == 4 {
+            return None;
+        }
+        cell[end] = *byte;
+        end += 1;
+    }
+    Some(end)
+}
