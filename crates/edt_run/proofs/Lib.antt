@@ -1,0 +1,9 @@
+pub mod ApartLaws
+pub mod Forests
+pub mod Headers
+pub mod NestingLaws
+pub mod PromiseLaws
+pub mod Puts
+pub mod RunLaws
+pub mod SmallLaws
+pub mod TokenLaws

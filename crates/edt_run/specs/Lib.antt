@@ -1,0 +1,12 @@
+pub mod Decision
+pub mod Forest
+pub mod Header
+pub mod Nodes
+pub mod Piece
+pub mod Promises
+pub mod Put
+pub mod Reader
+pub mod Reading
+pub mod Small
+pub mod Tokens
+pub mod Trail

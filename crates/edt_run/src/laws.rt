@@ -1,0 +1,26 @@
+//! Laws of the small source, as contracts: reading is the relation, and a source has one tree.
+
+ghost use Rattle.std.specs.Prelude.{◌≡◌, ℕ, List, Some};
+ghost use Rattle.edt_run.specs.Forest.{Forest};
+ghost use Rattle.edt_run.specs.Reading.{reading};
+ghost use Rattle.edt_run.specs.Small.{IsSmall};
+ghost use Rattle.edt_run.specs.Promises.{IsAnswer};
+ghost use Rattle.edt_run.specs.declared.top.Status.{Status};
+
+/// The bytes that are read as a tree are a small source of that tree, and every small source is
+/// read as its tree.
+pub(crate) fn sources_are_read()
+    ensures sound { (bytes : List ℕ) (f : Forest) → reading bytes ≡ Some f → IsSmall bytes f }
+    ensures complete { (bytes : List ℕ) (f : Forest) → IsSmall bytes f → reading bytes ≡ Some f }
+{}
+
+/// A source has at most one tree.
+pub(crate) fn one_tree()
+    ensures { (bytes : List ℕ) (f g : Forest) → IsSmall bytes f → IsSmall bytes g → f ≡ g }
+{}
+
+/// A run has one answer: over the same files the same words have one status and one output.
+pub(crate) fn one_answer()
+    ensures { (held : List (List ℕ × List ℕ)) (words : List (List ℕ)) (s : Status) (t : List ℕ) (s' : Status) (t' : List ℕ)
+        → IsAnswer held words s t → IsAnswer held words s' t' → (s ≡ s') × (t ≡ t') }
+{}
