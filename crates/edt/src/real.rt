@@ -83,9 +83,7 @@ impl<R: rt::Files + Input + AllocGlobal + Clone + Drop> RealFiles<R> {
             Err(e) => Err(end_of(e)),
         }
     }
-}
 
-impl<R: rt::Files + Input + AllocGlobal + Clone + Drop> RealFiles<R> {
     /// Goes through a folder: notes the folders in it, and the names of its binding files.
     fn list_one(
         &self,

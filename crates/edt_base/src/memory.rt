@@ -1,6 +1,6 @@
 //! Files and sinks in memory, which tell what they hold, and can be told to fail.
 
-ghost use Rattle.std.specs.Prelude.{◌≡◌, ◌<◌, ◌≤◌, ◌||◌, ◌&&◌, [], None, Some, OnErr, IfOk, IfSome, IsOk, IsErr, IsTrue, IsErrOf, ◌++◌, length, take, vec_len, option_map, nat_eq, not, is_err};
+ghost use Rattle.std.specs.Prelude.{◌≡◌, ◌<◌, ◌≤◌, ◌||◌, ◌&&◌, [], None, Some, OnErr, IfOk, IfSome, IsOk, IsErr, IsSome, IsTrue, false, IsErrOf, ◌++◌, length, take, vec_len, option_map, nat_eq, not, is_err};
 ghost use Rattle.std.specs.List.Sorted.{IsPermutation, IsSorted};
 ghost use Rattle.std.specs.Ordering.{nat_cmp};
 ghost use Rattle.std.specs.Cmp.Lexicographic.{slice_cmp};
@@ -177,6 +177,7 @@ impl Files for MemFiles {
         // It fails exactly at a listed call and at an absent folder, and each call counts.
         ensures only_listed { IsErrOf result ReadEnd.Failed → IsTrue (list_fails self.old dir.now) }
         ensures all_listed { IsTrue (list_fails self.old dir.now) → IsErr result }
+        ensures big_unlisted { IsErrOf result ReadEnd.TooBig → list_fails self.old dir.now ≡ false }
         ensures counted { CountsCall self.old self.new }
     {
         let listed = self.counts_listed_call();
@@ -200,6 +201,7 @@ impl Files for MemFiles {
         // It fails exactly at a listed call and at an absent name, and each call counts.
         ensures only_listed { IsErrOf result ReadEnd.Failed → next_read self.old name.now ≡ None }
         ensures all_listed { next_read self.old name.now ≡ None → IsErr result }
+        ensures big_unlisted { IsErrOf result ReadEnd.TooBig → IsSome (next_read self.old name.now) }
         ensures counted { CountsCall self.old self.new }
     {
         let listed = self.counts_listed_call();

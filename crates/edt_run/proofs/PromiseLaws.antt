@@ -1,5 +1,5 @@
 -- The steps of a run keep its promises.
-use Rattle.std.proofs.Common.{◌≡◌, ◌<◌, ◌≤◌, ◌++◌, ◌∙◌, ◌⊎◌, ℕ, List, [], ◌∷◌, Option, Some, None, IsSomeAnd, IfSome, IsTrue, length, refl, sym, ap, subst, true, false, codes, Bool, if◌then◌else◌, inl, inr, arith}
+use Rattle.std.proofs.Common.{◌≡◌, ◌-◌, ◌^◌, ◌<◌, ◌≤◌, ◌++◌, ◌∙◌, ◌⊎◌, ℕ, List, [], ◌∷◌, Option, Some, None, IsSomeAnd, IfSome, IsTrue, length, refl, sym, ap, subst, true, false, codes, Bool, if◌then◌else◌, inl, inr, arith}
 use Rattle.std.proofs.lemmas.List.{append-nil}
 use Rattle.std.specs.Option.{unwrap_or}
 use Rattle.edt_base.specs.declared.outside.Call.TheVariants as call
@@ -9,7 +9,7 @@ use Rattle.edt_run.specs.declared.top.Status.TheVariants as status
 use Rattle.edt_run.specs.Forest.{Forest}
 use Rattle.edt_run.specs.Small.{IsSmall}
 use Rattle.edt_run.specs.Header.{header}
-use Rattle.edt_run.specs.Promises.{Run, Ran, KeepsPromises, NothingRose, IsAnswer, IsAnswerTo, IsAnswerOver, IsCause, IsCauseOver, job, source_limit, note_line, is_plain}
+use Rattle.edt_run.specs.Promises.{Run, Ran, KeepsPromises, NothingRose, IsAnswer, IsAnswerTo, IsAnswerOver, IsCause, IsCauseOver, job, source_limit, note_line, is_plain, KeepsFiles, HasCause, EndsWithAnswer}
 use Rattle.edt_run.proofs.SmallLaws.{one_tree}
 
 -- two answers over one source are the same
@@ -108,13 +108,14 @@ said_of written wanted = if written then wanted else status.Write
 
 -- the steps of a run, over plain states
 record Steps (r : Run) (wanted : Status) (text : List ℕ) (written noted : Bool) : Type 0 where
+  files : KeepsFiles r.files_old r.files_new
   cause : IsCause r.files_old r.files_new (job r.words) wanted text
   output : Wrote r.out_old r.out_new text written
   note : Wrote r.note_old r.note_new (note_line r.words (said_of written wanted)) noted
   status : r.status ≡ (if noted then said_of written wanted else status.Write)
 
 steps_of : (r : Run) (ran : Ran r) → Steps r ran.wanted ran.text ran.written ran.noted
-steps_of r ran = record { cause = ran.cause; output = ran.output; note = ran.note; status = ran.status }
+steps_of r ran = record { files = ran.files; cause = ran.cause; output = ran.output; note = ran.note; status = ran.status }
 
 -- the output gained a front of the text that was wanted
 out_front : (r : Run) (wanted : Status) (text : List ℕ) (written noted : Bool) → Steps r wanted text written noted → GainsFront r.out_old r.out_new text
@@ -250,6 +251,33 @@ caused_as : (r : Run) (wanted : Status) (text : List ℕ) (s : Status) → IsCau
     → IsCause r.files_old r.files_new (job r.words) s text
 caused_as r wanted text s cause whole is = subst (λ x. IsCause r.files_old r.files_new (job r.words) x text) (sym whole.status ∙ is) cause
 
+-- the status that the note tells has its cause
+plain_cause : (r : Run) (s : Status) (text : List ℕ) (held : List (List ℕ × List ℕ)) → (IsFailure r.files_old r.files_new s → ⊥)
+    → IsAnswerTo held (job r.words) s text ⊎ ((text ≡ []) × IsFailure r.files_old r.files_new s) → (t : List ℕ) × IsAnswer held r.words s t
+plain_cause r s text held plain (inl is) = (text, is)
+plain_cause r s text held plain (inr failed) = absurd (plain failed.1)
+
+read_rose : (old new : FilesSeen) (o : Option (List ℕ)) (text : List ℕ) → IsCause old new o status.Read text → Rose old.faults new.faults
+read_rose old new None text cause = absurd cause
+read_rose old new (Some name) text cause = cause.1
+
+wanted_cause : (r : Run) (wanted : Status) (text : List ℕ) → IsCause r.files_old r.files_new (job r.words) wanted text → HasCause r wanted
+wanted_cause r status.Read text cause = read_rose r.files_old r.files_new (job r.words) text cause
+wanted_cause r status.Write text cause = absurd (no_write r.files_old r.files_new (job r.words) text cause)
+wanted_cause r status.Memory text cause = tt
+wanted_cause r status.Done text cause = told (held_of r.files_old) _ (λ held tells.
+    plain_cause r status.Done text held (λ h. h) (caused r.files_old r.files_new held (job r.words) status.Done text tells cause))
+wanted_cause r status.Rule text cause = told (held_of r.files_old) _ (λ held tells.
+    plain_cause r status.Rule text held (λ h. h) (caused r.files_old r.files_new held (job r.words) status.Rule text tells cause))
+wanted_cause r status.Usage text cause = told (held_of r.files_old) _ (λ held tells.
+    plain_cause r status.Usage text held (λ h. h) (caused r.files_old r.files_new held (job r.words) status.Usage text tells cause))
+wanted_cause r status.Limit text cause = told (held_of r.files_old) _ (λ held tells.
+    plain_cause r status.Limit text held (λ h. h) (caused r.files_old r.files_new held (job r.words) status.Limit text tells cause))
+
+has_cause : (r : Run) (wanted : Status) (text : List ℕ) (written noted : Bool) → Steps r wanted text written noted → HasCause r (said_of written wanted)
+has_cause r wanted text true noted steps = wanted_cause r wanted text steps.cause
+has_cause r wanted text false noted steps = steps.output.taken.0
+
 keeps_steps : (r : Run) (wanted : Status) (text : List ℕ) (written noted : Bool) → Steps r wanted text written noted → KeepsPromises r
 keeps_steps r wanted text written noted steps = record {
   answer = told (held_of r.files_old) _ (λ held tells plain.
@@ -279,9 +307,54 @@ keeps_steps r wanted text written noted steps = record {
       gained_nothing r.out_old r.out_new text
       (quiet_text r.files_old r.files_new (job r.words) wanted text steps.cause (λ e. isnt_done (whole.status ∙ e)))
       (out_front r wanted text written noted steps);
-  note = (said_of written wanted, noted, steps.note, steps.status);
+  note = (said_of written wanted, noted, has_cause r wanted text written noted steps, steps.note, steps.status);
+  kept = (steps.files, steps.output.count, steps.note.count);
 }
 
 -- a run keeps its promises
 pub keeps : (r : Run) → Ran r → KeepsPromises r
 keeps r ran = keeps_steps r ran.wanted ran.text ran.written ran.noted (steps_of r ran)
+
+-- ---- over files that don't fail, and sinks that are sure
+
+-- a sink that was sure didn't rise
+sure_stays : (old new : SinkSeen) (n : ℕ) → old.faults < 2 ^ 64 - 1 → IsSure old new n → Rose old.faults new.faults → ⊥
+sure_stays old new n low sure (inl rose) = omega (arith, sure.faults)
+sure_stays old new n low sure (inr last) = omega (arith, sure.faults)
+
+of_told : (o : Option (List (List ℕ × List ℕ))) (P : List (List ℕ × List ℕ) → Type 0) (held : List (List ℕ × List ℕ)) → o ≡ Some held → IfSome o P → P held
+of_told None P held tells h = cc
+of_told (Some h') P held tells h = subst P (let e : h' ≡ held = cc in e) h
+
+plain_fits : (r : Run) (held : List (List ℕ × List ℕ)) → held_of r.files_old ≡ Some held → (answer : Status) (text : List ℕ) → IsAnswer held r.words answer text
+    → length (note_line r.words answer) ≤ r.note_old.room → (said : Status)
+    → IfSome (held_of r.files_old) (λ h. (t : List ℕ) × IsAnswer h r.words said t) → length (note_line r.words said) ≤ r.note_old.room
+plain_fits r held tells answer text is line said cause =
+    let P : List (List ℕ × List ℕ) → Type 0 = λ h. (t : List ℕ) × IsAnswer h r.words said t in
+    let found = of_told (held_of r.files_old) P held tells cause in
+    subst (λ s. length (note_line r.words s) ≤ r.note_old.room) (one_answer held r.words answer text said found.0 is found.1).0 line
+
+-- the line that the note was given is one that it had room for
+line_fits : (r : Run) (held : List (List ℕ × List ℕ)) → held_of r.files_old ≡ Some held → (answer : Status) (text : List ℕ) → IsAnswer held r.words answer text
+    → (Rose r.files_old.faults r.files_new.faults → ⊥) → (Rose r.out_old.faults r.out_new.faults → ⊥)
+    → length (note_line r.words answer) ≤ r.note_old.room → length (codes "edt: memory\n") ≤ r.note_old.room
+    → (said : Status) → HasCause r said → length (note_line r.words said) ≤ r.note_old.room
+line_fits r held tells answer text is files out line memory status.Read cause = absurd (files cause)
+line_fits r held tells answer text is files out line memory status.Write cause = absurd (out cause)
+line_fits r held tells answer text is files out line memory status.Memory cause = memory
+line_fits r held tells answer text is files out line memory status.Done cause = plain_fits r held tells answer text is line status.Done cause
+line_fits r held tells answer text is files out line memory status.Rule cause = plain_fits r held tells answer text is line status.Rule cause
+line_fits r held tells answer text is files out line memory status.Usage cause = plain_fits r held tells answer text is line status.Usage cause
+line_fits r held tells answer text is files out line memory status.Limit cause = plain_fits r held tells answer text is line status.Limit cause
+
+pub ends_with_answer : EndsWithAnswer
+ends_with_answer r keeps held tells answer text is files room out_low line memory note_low =
+    let P : List (List ℕ × List ℕ) → Type 0 = λ h. (a : Status) (t : List ℕ) → IsAnswer h r.words a t → length t ≤ r.out_old.room → IsSure r.out_old r.out_new (length t) in
+    let Q : List (List ℕ × List ℕ) → Type 0 = λ h. (a : Status) (t : List ℕ) → IsAnswer h r.words a t → NothingRose r → (r.status ≡ a) ⊎ (r.status ≡ status.Memory) in
+    let out : Rose r.out_old.faults r.out_new.faults → ⊥ = sure_stays r.out_old r.out_new (length text) out_low
+    (of_told (held_of r.files_old) P held tells keeps.sure answer text is room) in
+    let fits : length (note_line r.words keeps.note.0) ≤ r.note_old.room =
+    line_fits r held tells answer text is files out line memory keeps.note.0 keeps.note.2 in
+    let note : Rose r.note_old.faults r.note_new.faults → ⊥ = sure_stays r.note_old r.note_new (length (note_line r.words keeps.note.0)) note_low
+    (keeps.note.3.sure fits).1 in
+    of_told (held_of r.files_old) Q held tells keeps.complete answer text is (files, out, note)

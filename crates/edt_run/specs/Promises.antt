@@ -1,5 +1,5 @@
 -- What a run promises: the cause of each status, what the output gained, and what the note says.
-use Rattle.std.specs.Prelude.{◌≡◌, ◌<◌, ◌≤◌, ◌++◌, ◌⊎◌, ◌&&◌, ◌||◌, ℕ, Bool, true, false, IsTrue, List, [], ◌∷◌, Option, Some, None, IsSomeAnd, IfSome, codes, length, not, nat_eq, unwrap_or, if◌then◌else◌}
+use Rattle.std.specs.Prelude.{◌≡◌, ◌-◌, ◌^◌, ◌<◌, ◌≤◌, ◌++◌, ◌⊎◌, ◌&&◌, ◌||◌, ℕ, Bool, true, false, IsTrue, List, [], ◌∷◌, Option, Some, None, IsSomeAnd, IfSome, codes, length, not, nat_eq, unwrap_or, if◌then◌else◌}
 use Rattle.std.specs.List.{starts_with}
 use Rattle.std.specs.Str.{bytes_eq}
 use Rattle.edt_base.specs.declared.fault.Rule.TheVariants as rule
@@ -94,12 +94,17 @@ pub record Run : Type 0 where
   pub note_new : SinkSeen
   pub status : Status
 
+-- the map of the files is the same, and their count of faults didn't fall
+abbrev pub KeepsFiles : FilesSeen → FilesSeen → Type 0
+KeepsFiles old new = (held_of new ≡ held_of old) × (old.faults ≤ new.faults)
+
 -- the steps of a run: what it wants, whether the output took it, and whether the note took its line
 pub record Ran (r : Run) : Type 0 where
   pub wanted : Status
   pub text : List ℕ
   pub written : Bool
   pub noted : Bool
+  pub files : KeepsFiles r.files_old r.files_new
   pub cause : IsCause r.files_old r.files_new (job r.words) wanted text
   pub output : Wrote r.out_old r.out_new text written
   pub note : Wrote r.note_old r.note_new (note_line r.words (if written then wanted else status.Write)) noted
@@ -119,6 +124,13 @@ is_plain status.Limit = true
 abbrev pub NothingRose : Run → Type 0
 NothingRose r = (Rose r.files_old.faults r.files_new.faults → ⊥) × (Rose r.out_old.faults r.out_new.faults → ⊥)
     × (Rose r.note_old.faults r.note_new.faults → ⊥)
+
+-- the status that the note tells has its cause: something failed, memory was wanted, or it is the answer's
+abbrev pub HasCause : Run → Status → Type 0
+HasCause r status.Read = Rose r.files_old.faults r.files_new.faults
+HasCause r status.Write = Rose r.out_old.faults r.out_new.faults
+HasCause r status.Memory = Unit {0}
+HasCause r said = IfSome (held_of r.files_old) (λ held. (text : List ℕ) × IsAnswer held r.words said text)
 
 -- what a run promises
 pub record KeepsPromises (r : Run) : Type 0 where
@@ -148,6 +160,18 @@ pub record KeepsPromises (r : Run) : Type 0 where
   pub memory : r.status ≡ status.Memory → Gains r.note_old r.note_new (codes "edt: memory\n")
   -- every status but 0 and 4 leaves the output as it was
   pub quiet : (r.status ≡ status.Done → ⊥) → (r.status ≡ status.Write → ⊥) → Gains r.out_old r.out_new []
-  -- the note: the line of the status before a failed note changes it, written as every text is
-  pub note : (said : Status) × (noted : Bool) × Wrote r.note_old r.note_new (note_line r.words said) noted
+  -- the note: the line of the status before a failed note changes it, written as every text is, so that
+  -- with sure room for it nothing fails
+  pub note : (said : Status) × (noted : Bool) × HasCause r said × Wrote r.note_old r.note_new (note_line r.words said) noted
       × (r.status ≡ (if noted then said else status.Write))
+  -- what stays: the files hold what they held, and no count of faults falls
+  pub kept : KeepsFiles r.files_old r.files_new × (r.out_old.faults ≤ r.out_new.faults) × (r.note_old.faults ≤ r.note_new.faults)
+
+-- over files that don't fail, with sure room for the answer's text and for the lines that can come, no
+-- premise on the sinks is left: the run ends with its answer or with want of memory
+abbrev pub EndsWithAnswer : Type 0
+EndsWithAnswer = (r : Run) → KeepsPromises r → (held : List (List ℕ × List ℕ)) → held_of r.files_old ≡ Some held
+    → (answer : Status) (text : List ℕ) → IsAnswer held r.words answer text → (Rose r.files_old.faults r.files_new.faults → ⊥)
+    → length text ≤ r.out_old.room → r.out_old.faults < 2 ^ 64 - 1
+    → length (note_line r.words answer) ≤ r.note_old.room → length (codes "edt: memory\n") ≤ r.note_old.room → r.note_old.faults < 2 ^ 64 - 1
+    → (r.status ≡ answer) ⊎ (r.status ≡ status.Memory)

@@ -4,7 +4,7 @@ ghost use Rattle.std.specs.Prelude.{◌≡◌, ℕ, List, Some};
 ghost use Rattle.edt_run.specs.Forest.{Forest};
 ghost use Rattle.edt_run.specs.Reading.{reading};
 ghost use Rattle.edt_run.specs.Small.{IsSmall};
-ghost use Rattle.edt_run.specs.Promises.{IsAnswer};
+ghost use Rattle.edt_run.specs.Promises.{IsAnswer, EndsWithAnswer};
 ghost use Rattle.edt_run.specs.declared.top.Status.{Status};
 
 /// The bytes that are read as a tree are a small source of that tree, and every small source is
@@ -23,4 +23,10 @@ pub(crate) fn one_tree()
 pub(crate) fn one_answer()
     ensures { (held : List (List ℕ × List ℕ)) (words : List (List ℕ)) (s : Status) (t : List ℕ) (s' : Status) (t' : List ℕ)
         → IsAnswer held words s t → IsAnswer held words s' t' → (s ≡ s') × (t ≡ t') }
+{}
+
+/// A run over files that don't fail and sinks with sure room ends with its answer, or with want of
+/// memory: what a run promises leaves no other status.
+pub(crate) fn sure_runs_end_with_the_answer()
+    ensures { EndsWithAnswer }
 {}
