@@ -1,5 +1,6 @@
 pub mod IndexLemmas
 pub mod ListLaws
 pub mod OrderLaws
+pub mod RisingLaws
 pub mod RootAlone
 pub mod WriteLaws

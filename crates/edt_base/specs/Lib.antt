@@ -5,6 +5,7 @@ pub mod EntryData
 pub mod FaultText
 pub mod IndexData
 pub mod InstData
+pub mod Marks
 pub mod Memory
 pub mod NodeData
 pub mod Outside

@@ -1,9 +1,13 @@
 //! The bound tree: the tree with all that bindings say of its nodes.
 
-ghost use Rattle.std.specs.Prelude.{◌≡◌, ◌<◌, All, length};
+ghost use Rattle.std.specs.Prelude.{◌≡◌, ◌<◌, All, IfOk, length};
 ghost use Rattle.edt_base.specs.BoundData.{IsBound};
+ghost use Rattle.edt_base.specs.IndexData.{path_at};
+ghost use Rattle.edt_base.specs.Marks.{id_size, ords_at};
 
+use crate::marks::{Ords, all_ords, id_lens};
 use crate::{Bytes, NodeId, Text, Tree};
+use std::alloc::{AllocError, Global};
 use std::marker::Model;
 
 /// The type that a binding gives a property (Zephyr 3.7, "Devicetree bindings syntax", `type`).
@@ -219,10 +223,14 @@ pub struct Bound {
     pub insts: Vec<Inst>,
     /// The places, rising and from 0, of the header's definitions that equal an earlier one.
     pub doubles: Vec<u64>,
+    id_lens: Vec<u64>,
+    ords: Vec<Ords>,
 }
 
 impl Model for Bound {
+    ghost use Rattle.std.specs.Prelude.{◌≡◌, map};
     ghost use Rattle.edt_base.specs.BoundData.{BoundData, IsBound};
+    ghost use Rattle.edt_base.specs.Marks.{id_size, ords_of};
 
     ghost Value = { BoundData };
 
@@ -234,24 +242,28 @@ impl Model for Bound {
       doubles = b.doubles.items;
     } };
 
-    ghost invariant = { λ b. IsBound (record {
-      tree = b.tree;
-      nodes = b.nodes.items;
-      order = b.order.items;
-      insts = b.insts.items;
-      doubles = b.doubles.items;
-    }) };
+    ghost invariant = { λ b.
+        IsBound (record {
+          tree = b.tree;
+          nodes = b.nodes.items;
+          order = b.order.items;
+          insts = b.insts.items;
+          doubles = b.doubles.items;
+        })
+        × (b.id_lens.items ≡ map (λ n. id_size n.path) b.tree.nodes)
+        × (b.ords.items ≡ map (ords_of b.nodes.items) b.nodes.items) };
 }
 
 impl Bound {
-    /// The bound tree of its parts, which it takes over: no memory is taken.
+    /// The bound tree of its parts, which it takes over. The one error is want of memory.
     pub fn new(
+        alloc: Global,
         tree: Tree,
         nodes: Vec<BoundNode>,
         order: Vec<NodeId>,
         insts: Vec<Inst>,
         doubles: Vec<u64>,
-    ) -> Bound
+    ) -> Result<Bound, AllocError>
         requires { IsBound (record {
           tree = tree;
           nodes = nodes.items;
@@ -259,20 +271,56 @@ impl Bound {
           insts = insts.items;
           doubles = doubles.items;
         }) }
-        ensures { result ≡ record {
+        ensures { IfOk result (λ b. b ≡ record {
           tree = tree;
           nodes = nodes.items;
           order = order.items;
           insts = insts.items;
           doubles = doubles.items;
-        } }
+        }) }
     {
-        Bound {
+        let id_lens = id_lens(alloc, tree.nodes())?;
+        let ords = all_ords(alloc, nodes.as_slice())?;
+        Ok(Bound {
             tree,
             nodes,
             order,
             insts,
             doubles,
+            id_lens,
+            ords,
+        })
+    }
+
+    #[tactic(auto, unfolding(crate::specs::Marks::id_text))]
+    /// The length of a node's id in the header, at most the greatest 64-bit number; that of an id past
+    /// the nodes is the root's. Takes no memory.
+    pub fn id_len(&self, id: NodeId) -> u64
+        ensures { result ≡ id_size (path_at self.now.tree.nodes id) }
+    {
+        match self.id_lens.get(id.0 as usize) {
+            Some(len) => *len,
+            None => 4,
+        }
+    }
+
+    /// The ordinals, rising, of the nodes that a node requires. Takes no memory.
+    pub fn needs_ords(&self, id: NodeId) -> &[u32]
+        ensures { result.now ≡ (ords_at self.now.nodes id).needs }
+    {
+        match self.ords.get(id.0 as usize) {
+            Some(ords) => ords.needs.as_slice(),
+            None => &[],
+        }
+    }
+
+    /// The ordinals, rising, of the nodes that require a node. Takes no memory.
+    pub fn supports_ords(&self, id: NodeId) -> &[u32]
+        ensures { result.now ≡ (ords_at self.now.nodes id).supports }
+    {
+        match self.ords.get(id.0 as usize) {
+            Some(ords) => ords.supports.as_slice(),
+            None => &[],
         }
     }
 
@@ -321,7 +369,14 @@ mod tests {
         };
         let bound_nodes = vec![in alloc; bare]?;
         let order = vec![in alloc; NodeId(0)]?;
-        let bound = Bound::new(tree, bound_nodes, order, Vec::new(alloc), Vec::new(alloc));
+        let bound = Bound::new(
+            alloc,
+            tree,
+            bound_nodes,
+            order,
+            Vec::new(alloc),
+            Vec::new(alloc),
+        )?;
         bound.is_bound();
         assert_eq!(rt; bound.nodes.len(), 1);
         assert!(rt; bound.insts.is_empty());

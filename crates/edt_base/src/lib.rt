@@ -6,6 +6,7 @@ mod bound;
 mod bytes;
 mod fault;
 mod index;
+mod marks;
 mod memory;
 mod node;
 mod outside;

@@ -11,8 +11,8 @@ new-requires-11 g c = rw (c.in_ok-nodes.ensures.items, c.new-9.ensures.items, c.
   props = c.new-6.ensures.empty;
 }))
 
-pub new-bound-requires : goal.new-bound-requires
-new-bound-requires g c =
+pub new-requires-21 : goal.new-requires-21
+new-requires-21 g c =
     let one = ap (λ (t : TreeData). length t.nodes) c.in_ok-tree.ensures ∙ ap length c.in_ok-nodes.ensures.items in
     rw (c.in_ok-bound_nodes.ensures.items, c.in_ok-order.ensures.items, c.new-19.ensures.items)
     (root_bound c.in_ok-tree.tree _ c.new-20.result.items c.is_well_formed.ensures one (record {
