@@ -1,0 +1,17 @@
+//! The tokens of a devicetree source (Devicetree Specification v0.4, chapter 6), one after another,
+//! as slices of it and without memory.
+#![tactic(auto)]
+
+mod between;
+mod laws;
+mod lexer;
+mod names;
+mod opened;
+mod signs;
+#[cfg(test)]
+mod tests;
+mod token;
+mod words;
+
+pub use laws::tokens_are_slices;
+pub use lexer::{LexFault, Lexer, Span, SpanKind};

@@ -1,0 +1,16 @@
+pub mod Worth
+pub mod Token
+pub mod StmtData
+pub mod Texts
+pub mod Numbers
+pub mod Exprs
+pub mod Values
+pub mod Statements
+pub mod Fronts
+pub mod Machine
+pub mod Source
+pub mod Signed
+pub mod ActForm
+pub mod Shown
+pub mod Outcome
+pub mod Nested

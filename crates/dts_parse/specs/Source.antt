@@ -1,0 +1,207 @@
+-- A source and its script, or the rules that it breaks, each where it does.
+use Rattle.std.specs.Prelude.{◌≡◌, ◌≢◌, ◌<◌, ◌≤◌, ℕ, ◌+◌, Bool, true, false, List, [], ◌∷◌, ◌++◌, Option, Some, None, Result, Ok, Err, length, slice_range, nat_eq, if◌then◌else◌, codes}
+use Rattle.std.specs.Prelude.{◌⊎◌}
+use Rattle.std.specs.List.{list_all}
+use Rattle.std.specs.Str.{bytes_eq}
+use Rattle.edt_base.specs.declared.fault.End.{End}
+use Rattle.edt_base.specs.declared.fault.End.TheVariants as ending
+use Rattle.edt_base.specs.declared.fault.Place.TheVariants as places
+use Rattle.edt_base.specs.declared.fault.Rule.{Rule}
+use Rattle.edt_base.specs.declared.fault.Rule.TheVariants as rules
+use Rattle.dts_lex.specs.Left.{Left, whole}
+use Rattle.dts_lex.specs.Tokens.{next_of}
+use Rattle.dts_lex.specs.declared.lexer.LexFault.{LexFault}
+use Rattle.dts_lex.specs.declared.lexer.Span.{Span}
+use Rattle.dts_lex.specs.declared.lexer.SpanKind.{SpanKind}
+use Rattle.dts_lex.specs.declared.lexer.SpanKind.TheVariants as kind
+use Rattle.dts_parse.specs.Fronts.{Front, Listed, expression, in_expression, is_opening, nested, spell_front, spell_listed}
+use Rattle.dts_parse.specs.Machine.{is_include}
+use Rattle.dts_parse.specs.Numbers.{number}
+use Rattle.dts_parse.specs.Statements.{AreFit, Pieces, place, script, spell_pieces, takes_top}
+use Rattle.dts_parse.specs.StmtData.{StmtData}
+use Rattle.dts_parse.specs.Texts.{char_worth, pair_worth}
+use Rattle.dts_parse.specs.Token.{Spot, Token, form_of, is_ascii, token}
+use Rattle.dts_parse.specs.Values.{Element, element_place, is_misfit, spell_element}
+use Rattle.dts_parse.specs.declared.expr.BinOp.TheVariants as op
+use Rattle.dts_parse.specs.declared.mode.Breach.{Breach}
+use Rattle.dts_parse.specs.declared.mode.Breach.TheVariants.{S1, S2, S5, S6}
+use Rattle.dts_parse.specs.declared.sign.Form.{Form}
+use Rattle.dts_parse.specs.declared.sign.Sign.{Sign}
+use Rattle.dts_parse.specs.declared.sign.Sign.TheVariants as sign
+use Rattle.dts_parse.specs.declared.sign.Width.{Width}
+
+-- ---- tokens
+
+abbrev pub name_sign : Option Form → Sign
+name_sign None = sign.Other
+name_sign (Some f) = sign.Name f
+
+abbrev pub directive_sign : List ℕ → Sign
+directive_sign text =
+    if bytes_eq text (codes "/dts-v1/") then sign.Version
+    else if bytes_eq text (codes "/plugin/") then sign.Plugin
+    else if bytes_eq text (codes "/memreserve/") then sign.Reserve
+    else if bytes_eq text (codes "/delete-node/") then sign.DeleteNode
+    else if bytes_eq text (codes "/delete-property/") then sign.DeleteProp
+    else if bytes_eq text (codes "/omit-if-no-ref/") then sign.Omit
+    else if bytes_eq text (codes "/bits/") then sign.Bits
+    else sign.Include
+
+-- a sign of one byte
+abbrev pub byte_sign : ℕ → Sign
+byte_sign b =
+    if nat_eq b 123 then sign.LeftBrace else if nat_eq b 125 then sign.RightBrace
+    else if nat_eq b 91 then sign.LeftSquare else if nat_eq b 93 then sign.RightSquare
+    else if nat_eq b 40 then sign.LeftRound else if nat_eq b 41 then sign.RightRound
+    else if nat_eq b 60 then sign.Less else if nat_eq b 62 then sign.Greater
+    else if nat_eq b 47 then sign.Slash else if nat_eq b 58 then sign.Colon
+    else if nat_eq b 59 then sign.Semicolon else if nat_eq b 61 then sign.Equal
+    else if nat_eq b 44 then sign.Comma else if nat_eq b 45 then sign.Minus
+    else if nat_eq b 126 then sign.Tilde else if nat_eq b 33 then sign.Bang
+    else if nat_eq b 63 then sign.Question else if nat_eq b 42 then sign.Op op.Mul
+    else if nat_eq b 37 then sign.Op op.Rem else if nat_eq b 43 then sign.Op op.Add
+    else if nat_eq b 38 then sign.Op op.BitAnd else if nat_eq b 94 then sign.Op op.BitXor
+    else if nat_eq b 124 then sign.Op op.BitOr
+    else sign.Other
+
+-- an operator of two bytes, by both
+abbrev pub double_sign : ℕ → ℕ → Sign
+double_sign a b =
+    if nat_eq b 61 then (if nat_eq a 60 then sign.Op op.Le else if nat_eq a 62 then sign.Op op.Ge else if nat_eq a 61 then sign.Op op.Eq else sign.Op op.Ne)
+    else if nat_eq a 60 then sign.Op op.Shl
+    else if nat_eq a 62 then sign.Op op.Shr
+    else if nat_eq a 38 then sign.Op op.And
+    else sign.Op op.Or
+
+abbrev pub punct_sign : List ℕ → Sign
+punct_sign (b ∷ []) = byte_sign b
+punct_sign (a ∷ b ∷ []) = double_sign a b
+punct_sign _ = sign.Other
+
+-- (the bytes of references are ASCII)
+abbrev pub ref_sign : List ℕ → Sign
+ref_sign text = if list_all is_ascii text then sign.Ref else sign.Other
+
+abbrev pub sign_of : SpanKind → List ℕ → Sign
+sign_of kind.Name text = name_sign (form_of text)
+sign_of kind.Number text = number text
+sign_of kind.Char text = sign.Char (char_worth text)
+sign_of kind.Str text = sign.Str
+sign_of kind.Ref text = ref_sign text
+sign_of kind.PathRef text = ref_sign text
+sign_of kind.Directive text = directive_sign text
+sign_of kind.Punct text = punct_sign text
+sign_of kind.HexPair text = sign.Pair (pair_worth text)
+
+-- the bytes of a span
+abbrev pub slice_of : List ℕ → Span → List ℕ
+slice_of src span = slice_range src span.start span.end
+
+abbrev pub token_of : List ℕ → Span → Token
+token_of src span = token (sign_of span.kind (slice_of src span)) (record { at = span.start; text = slice_of src span })
+
+-- these are the first tokens of the source, the last one first, and this is left behind them
+abbrev pub AreTokens : List ℕ → List Token → Left → Type 0
+AreTokens src [] left = left ≡ whole src
+AreTokens src (t ∷ before) left = (mid : Left) × (span : Span) × AreTokens src before mid × (next_of mid ≡ Ok (Some (span, left))) × (t ≡ token_of src span)
+
+-- ---- the script
+
+-- these are the pieces of the whole source
+pub record IsWhole (src : List ℕ) (base : Bool) (ps : Pieces) : Type 0 where
+  pub fit : AreFit base ps
+  pub ends : takes_top (place base ps) ≡ true
+  pub left : Left
+  pub tokens : AreTokens src (spell_pieces ps) left
+  pub none : next_of left ≡ Ok None
+
+-- the source has these statements
+pub record IsScript (src : List ℕ) (base : Bool) (stmts : List StmtData) : Type 0 where
+  pub ps : Pieces
+  pub is_whole : IsWhole src base ps
+  pub statements : script base ps ≡ stmts
+
+-- ---- the rules
+
+-- what stands next, there, is taken in by no front; the end of the text counts as a token, which a whole source takes in
+abbrev pub NoneTakes : List ℕ → Bool → List Token → ℕ → Result (Option (Span × Left)) LexFault → Type 0
+NoneTakes src base before at (Err fault) = at ≡ fault.at
+NoneTakes src base before at (Ok None) = (at ≡ length src) × ((ps : Pieces) → AreFit base ps → takes_top (place base ps) ≡ true → spell_pieces ps ≢ before)
+NoneTakes src base before at (Ok (Some next)) = (at ≡ next.0.start) × ((g : Front base) → spell_front g ≢ token_of src next.0 ∷ before)
+
+-- the first token that continues no source, or a byte where no token stands
+pub record IsS1 (src : List ℕ) (base : Bool) (at : ℕ) : Type 0 where
+  pub front : Front base
+  pub left : Left
+  pub tokens : AreTokens src (spell_front front) left
+  pub none : NoneTakes src base (spell_front front) at (next_of left)
+
+-- 64 braces and brackets are open, and one more opens; or 4,096 tokens of an expression are read, and one more is taken in
+abbrev pub IsTooMuch : (base : Bool) → Front base → Token → Type 0
+IsTooMuch base f t = ((is_opening (in_expression f) t.sign ≡ true) × (64 ≤ nested f)) ⊎ ((4096 ≤ expression f) × ((g : Front base) × (spell_front g ≡ t ∷ spell_front f)))
+
+pub record IsS2 (src : List ℕ) (base : Bool) (at : ℕ) : Type 0 where
+  pub front : Front base
+  pub left : Left
+  pub span : Span
+  pub next : Left
+  pub tokens : AreTokens src (spell_front front) left
+  pub is : next_of left ≡ Ok (Some (span, next))
+  pub place_is : at ≡ span.start
+  pub much : IsTooMuch base front (token_of src span)
+
+-- an element without a value, or with one that doesn't fit, in which no limit is passed
+pub record IsS5 (src : List ℕ) (base : Bool) (at : ℕ) : Type 0 where
+  pub w : Width
+  pub l : Listed base w
+  pub e : Element w
+  pub left : Left
+  pub tokens : AreTokens src (spell_element e (spell_listed l)) left
+  pub place_is : at ≡ element_place e
+  pub misfit : is_misfit w e ≡ true
+  pub shallow : (other : ℕ) → IsS2 src base other → other < left.at → other < at
+
+-- a directive that asks for another file
+pub record IsS6 (src : List ℕ) (at : ℕ) : Type 0 where
+  pub before : List Token
+  pub left : Left
+  pub span : Span
+  pub next : Left
+  pub tokens : AreTokens src before left
+  pub is : next_of left ≡ Ok (Some (span, next))
+  pub place_is : at ≡ span.start
+  pub include : is_include (sign_of span.kind (slice_of src span)) ≡ true
+
+abbrev pub IsBroken : List ℕ → Bool → Breach → ℕ → Type 0
+IsBroken src base S1 at = IsS1 src base at
+IsBroken src base S2 at = IsS2 src base at
+IsBroken src base S5 at = IsS5 src base at
+IsBroken src base S6 at = IsS6 src at
+
+-- the broken rule of the least byte, and at one byte S1 last
+pub record IsFirst (src : List ℕ) (base : Bool) (rule : Breach) (at : ℕ) : Type 0 where
+  pub broken : IsBroken src base rule at
+  pub least : (other : Breach) (place : ℕ) → IsBroken src base other place → (at < place) ⊎ ((at ≡ place) × ((other ≡ rule) ⊎ (other ≡ S1)))
+
+-- ---- what a reader answers
+
+abbrev pub rule_of : Breach → Rule
+rule_of S1 = rules.S1
+rule_of S2 = rules.S2
+rule_of S5 = rules.S5
+rule_of S6 = rules.S6
+
+-- a fault is the first, and names the file and the byte
+abbrev pub IsFirstFault : {T : Type 0} → List ℕ → List ℕ → Bool → Result T End → Type 0
+IsFirstFault file src base (Ok v) = Unit {0}
+IsFirstFault file src base (Err (ending.Memory e)) = Unit {0}
+IsFirstFault file src base (Err (ending.Fault f)) =
+    (rule : Breach) × ((at : ℕ) × ((f ≡ record { rule = rule_of rule; place = places.Byte file at }) × IsFirst src base rule at))
+
+-- it breaks no rule
+abbrev pub BreaksNone : List ℕ → Bool → Type 0
+BreaksNone src base = (rule : Breach) (at : ℕ) → IsBroken src base rule at → ⊥
+
+-- a source that breaks no rule has one script
+abbrev pub HasOneScript : Type 0
+HasOneScript = (src : List ℕ) (base : Bool) (a b : List StmtData) → BreaksNone src base → IsScript src base a → IsScript src base b → a ≡ b
