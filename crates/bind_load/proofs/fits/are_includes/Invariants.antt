@@ -1,0 +1,9 @@
+use Rattle.std.proofs.Common.{◌≡◌, drop}
+use Rattle.std.specs.List.{list_all}
+use Rattle.edt_base.specs.YamlData.{item_list}
+use Rattle.bind_load.specs.Seen.{items_of}
+use Rattle.bind_load.specs.Forms.{is_text_or_map}
+use Rattle.bind_load.proofs.fits.are_includes.Given as goal
+
+abbrev pub invariant-loop-item : goal.invariant-loop-item
+invariant-loop-item l = list_all is_text_or_map (item_list (items_of (drop l.item-index l.item-items))) ≡ list_all is_text_or_map (item_list (items_of l.item-items))

@@ -1,0 +1,8 @@
+use Rattle.std.proofs.Common.{◌≡◌, map, drop}
+use Rattle.std.specs.List.{list_any}
+use Rattle.bind_load.specs.Seen.{map_data}
+use Rattle.bind_load.specs.Rules.{has_wrong_form}
+use Rattle.bind_load.proofs.rules.any_wrong_form.Given as goal
+
+abbrev pub invariant-loop-map : goal.invariant-loop-map
+invariant-loop-map l = list_any has_wrong_form (map map_data (drop l.map-index l.maps)) ≡ list_any has_wrong_form (map map_data l.maps)

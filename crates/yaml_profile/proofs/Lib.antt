@@ -1,0 +1,15 @@
+pub mod BlockTextLaws
+pub mod FrameLaws
+pub mod Utf8Laws
+pub mod WrittenTexts
+pub mod WrittenQuotes
+pub mod WrittenLines
+pub mod WrittenFlows
+pub mod WrittenKeys
+pub mod WrittenOpen
+pub mod WrittenBlocks
+pub mod WrittenScalars
+pub mod WrittenParagraphs
+pub mod WrittenReads
+pub mod WrittenBytes
+pub mod YamlLaws

@@ -1,0 +1,13 @@
+pub mod Answers
+pub mod Signs
+pub mod Scalars
+pub mod Folding
+pub mod BlockText
+pub mod Fronts
+pub mod Pieces
+pub mod Layout
+pub mod Reading
+pub mod Shown
+pub mod Reads
+pub mod Written
+pub mod Yaml

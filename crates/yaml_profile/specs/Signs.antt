@@ -1,0 +1,67 @@
+-- Characters that mean something, and what may follow them. A list of characters ends where the file does.
+use Rattle.std.specs.Prelude.{ℕ, ◌+◌, Bool, true, false, ◌&&◌, ◌||◌, ◌==◌, List, [], ◌∷◌, if◌then◌else◌, nat_le}
+
+-- a space or a tab
+abbrev pub is_blank : ℕ → Bool
+is_blank c = (c == 32) || (c == 9)
+
+-- the next character is this one
+abbrev pub begins_with : ℕ → List ℕ → Bool
+begins_with d [] = false
+begins_with d (c ∷ cs) = c == d
+
+-- a line ends here: a line feed, with a carriage return before it or without, or the end of the file
+abbrev pub ends_line : List ℕ → Bool
+ends_line [] = true
+ends_line (c ∷ cs) = (c == 10) || ((c == 13) && begins_with 10 cs)
+
+-- a space stands here, or a line ends
+abbrev pub ends_word : List ℕ → Bool
+ends_word rest = begins_with 32 rest || ends_line rest
+
+-- a character at this place is taken and what stands behind it is not: a carriage return may still begin a
+-- line end, and then it is the byte behind that
+abbrev pub behind : ℕ → List ℕ → ℕ
+behind at rest = if begins_with 13 rest then at + 2 else at + 1
+
+-- this character isn't taken
+abbrev pub place_of : ℕ → ℕ → ℕ
+place_of at c = if c == 13 then at + 1 else at
+
+-- `---` or `...` as a word begins with this character
+abbrev pub begins_mark : ℕ → List ℕ → Bool
+begins_mark c (d ∷ e ∷ more) = ((c == 45) || (c == 46)) && (d == c) && (e == c) && ends_word more
+begins_mark c _ = false
+
+-- what ends a plain text inside a flow list: `,`, `[`, `]`, `{` and `}`
+abbrev pub is_flow_sign : ℕ → Bool
+is_flow_sign c = (c == 44) || (c == 91) || (c == 93) || (c == 123) || (c == 125)
+
+-- `-`, `?` and `:` begin a plain text only before a character that isn't a space
+abbrev pub is_word_sign : ℕ → Bool
+is_word_sign c = (c == 45) || (c == 63) || (c == 58)
+
+-- where a value begins these make a form that is left out: `&`, `*`, `!`, `%` and `{`
+abbrev pub is_left_out : ℕ → Bool
+is_left_out c = (c == 38) || (c == 42) || (c == 33) || (c == 37) || (c == 123)
+
+-- nothing begins with these: `,`, `]`, `}`, `#`, `@` and the backquote
+abbrev pub begins_nothing : ℕ → Bool
+begins_nothing c = (c == 44) || (c == 93) || (c == 125) || (c == 35) || (c == 64) || (c == 96)
+
+abbrev pub is_digit : ℕ → Bool
+is_digit c = nat_le 48 c && nat_le c 57
+
+-- behind a text, a character that is broken off counts as one that means nothing
+abbrev pub broken_off : Bool → List ℕ
+broken_off true = 0xE9 ∷ []
+broken_off false = []
+
+abbrev pub broken_len : Bool → ℕ
+broken_len true = 2
+broken_len false = 0
+
+-- what is left of a file, and the byte at which that begins
+pub record Left : Type 0 where
+  pub at : ℕ
+  pub chars : List ℕ
