@@ -1,0 +1,4 @@
+pub mod CellLaws
+pub mod EntryLaws
+pub mod TranslationLaws
+pub mod ThreeNodes

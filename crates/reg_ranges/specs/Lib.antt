@@ -1,0 +1,5 @@
+pub mod Cutting
+pub mod Ranges
+pub mod Registers
+pub mod Translation
+pub mod ThreeNodes
