@@ -1,0 +1,17 @@
+pub mod ApartLaws
+pub mod DirectiveLaws
+pub mod TableLaws
+pub mod OneOutcome
+pub mod Steps
+pub mod SetLaws
+pub mod BarLaws
+pub mod PartLaws
+pub mod Escapes
+pub mod PendLaws
+pub mod JoinLaws
+pub mod FeedLaws
+pub mod CollectLaws
+pub mod MachineLaws
+pub mod PlaceLaws
+pub mod TurnLaws
+pub mod RunLaws

@@ -1,0 +1,11 @@
+use Rattle.std.proofs.Common.{◌≡◌, ◌++◌, length, map}
+use Rattle.c_macro.specs.Directive.{all_params}
+use Rattle.c_macro.specs.Bodies.{parts}
+use Rattle.c_macro.specs.Pending.{part_data}
+use Rattle.c_macro.proofs.part.parts.Given as goal
+
+abbrev pub invariant-loop-tok : goal.invariant-loop-tok
+invariant-loop-tok l = map part_data l.made.items ++ parts l.calls (all_params l.names l.variadic) l.right l.left ≡ parts l.calls (all_params l.names l.variadic) l.initial.right l.body
+
+abbrev pub decreases-loop-tok : goal.decreases-loop-tok
+decreases-loop-tok l = length l.left

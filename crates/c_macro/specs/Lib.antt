@@ -1,0 +1,17 @@
+pub mod Bodies
+pub mod Calls
+pub mod Collecting
+pub mod Directive
+pub mod Expansion
+pub mod Joining
+pub mod Machine
+pub mod MacroData
+pub mod Marked
+pub mod Pending
+pub mod Placing
+pub mod Reading
+pub mod SetData
+pub mod Strings
+pub mod Table
+pub mod Turns
+pub mod Worklist

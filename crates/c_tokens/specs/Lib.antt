@@ -1,0 +1,10 @@
+pub mod Bytes
+pub mod Grammar
+pub mod Joining
+pub mod LineData
+pub mod Lexed
+pub mod Lines
+pub mod Lexing
+pub mod Reading
+pub mod Reaching
+pub mod Shown

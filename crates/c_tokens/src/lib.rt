@@ -1,0 +1,18 @@
+//! The tokens of C text and its logical lines (ISO C, 5.1.1.2 and 6.4).
+#![tactic(auto)]
+
+mod grammar;
+mod join;
+mod laws;
+mod lex;
+mod lines;
+#[cfg(test)]
+mod tests;
+mod tok;
+mod writing;
+
+pub use grammar::kind_of;
+pub use laws::a_text_has_one_list_of_lines;
+pub use lines::Lines;
+pub use tok::{CEnd, Line, Tok, TokKind};
+pub use writing::show;
