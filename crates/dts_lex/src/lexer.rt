@@ -8,6 +8,7 @@ use crate::between::{gap_length, gap_start};
 use crate::opened::Opened;
 use crate::token::{known_behind, row_length, token_at};
 use std::marker::Model;
+use thiserror::Error;
 
 /// What a token is (Devicetree Specification v0.4, 6.2 to 6.4).
 #[derive(Clone, Copy, Debug, PartialEq, Eq)]
@@ -44,7 +45,8 @@ pub struct Span {
 }
 
 /// No token stands at a byte.
-#[derive(Clone, Copy, Debug, PartialEq, Eq)]
+#[derive(Clone, Copy, Debug, PartialEq, Eq, Error)]
+#[error("no token stands at byte {at}")]
 pub struct LexFault {
     /// The byte, counted from 0.
     pub at: u64,

@@ -1,12 +1,10 @@
 -- What an operator closes, as trees.
-use Rattle.std.proofs.Common.{◌≡◌, ◌<◌, ◌≤◌, ℕ, zero, suc, ◌+◌, ◌-◌, Bool, true, false, List, [], ◌∷◌, Option, Some, None, refl, sym, ap, subst, ◌∙◌, nat_le, arith, option_map, if◌then◌else◌}
+use Rattle.std.proofs.Common.{◌≡◌, ◌<◌, ◌≤◌, ℕ, zero, suc, Bool, true, false, List, refl, ◌∙◌, nat_le, arith}
 use Rattle.std.proofs.lemmas.Bool.{leb-true, leb-false}
-use Rattle.dts_parse.specs.Exprs.{Tree, Num, Round, Un, Bin, Cond, IsProper, Waiting, Start, In_round, In_un, In_bin, In_cond, In_else, AreProper, below, count, count_waiting, large, large_waiting, level, room, rounds, spell, spell_waiting, worth_of}
-use Rattle.dts_parse.specs.Machine.{Climbed, climbed, reduced}
-use Rattle.dts_parse.specs.Token.{Spot, Token, op_level}
+use Rattle.dts_parse.specs.Exprs.{Tree, Un, Bin, Cond, IsProper, Waiting, Start, In_round, In_un, In_bin, In_cond, In_else, AreProper, below, count, count_waiting, large, large_waiting, level, room, rounds, spell, spell_waiting, worth_of}
+use Rattle.dts_parse.specs.Machine.{climbed}
+use Rattle.dts_parse.specs.Token.{Token, op_level}
 use Rattle.dts_parse.specs.Worth.{bin, cond}
-use Rattle.dts_parse.specs.declared.expr.BinOp.{BinOp}
-use Rattle.dts_parse.specs.declared.mode.Frame.{Frame}
 use Rattle.dts_parse.specs.declared.mode.Frame.TheVariants as frame
 use Rattle.dts_parse.proofs.ExprReads.{below_is, climbed_none, climbed_some, op_range}
 use Rattle.dts_parse.proofs.Kept.{frames_of}

@@ -1,24 +1,20 @@
 -- A walk over an element that doesn't fit stops at its last token.
-use Rattle.std.proofs.Common.{◌≡◌, ◌<◌, ◌≤◌, ℕ, zero, suc, ◌+◌, Bool, true, false, ◌&&◌, List, [], ◌∷◌, ◌++◌, Option, Some, None, Result, Ok, Err, refl, sym, ap, subst, ◌∙◌, nat_le, arith, inl, inr, append_assoc, if◌then◌else◌}
+use Rattle.std.proofs.Common.{◌≡◌, ℕ, suc, Bool, true, false, ◌&&◌, List, [], ◌∷◌, ◌++◌, Option, Some, None, Ok, refl, sym, ap, subst, ◌∙◌, nat_le, inl, inr, append_assoc, if◌then◌else◌}
 use Rattle.std.specs.Prelude.{◌⊎◌}
 use Rattle.dts_parse.specs.Exprs.{Literal, Small, Large, Letter, Tree, Num, Round, Un, Bin, Cond, IsProper, count, large, literal_sign, literal_worth, or_large, spell, worth_of}
-use Rattle.dts_parse.specs.Fronts.{Beginning, Front, Listed, Site, In_list, braces, is_opening, spell_list, spell_listed, spell_site}
-use Rattle.dts_parse.specs.Machine.{Climbed, Fault, Shape, Step, climbed, closed_round, in_rounds, is_include, limited, put, step, stop, taken, walk}
+use Rattle.dts_parse.specs.Fronts.{Listed, In_list, braces, is_opening, spell_listed}
+use Rattle.dts_parse.specs.Machine.{Fault, Shape, Step, closed_round, in_rounds, is_include, limited, put, step, stop, taken, walk}
 use Rattle.dts_parse.specs.Token.{Spot, Token, bin_sign, token, un_sign}
-use Rattle.dts_parse.specs.Values.{Element, Lone, Group, Refer, bytes_with, cells_with, element_place, is_misfit, listing_of, misfits, parts_of, bytes_of, cells_of, spell_element}
+use Rattle.dts_parse.specs.Values.{Element, Lone, Group, Refer, element_place, is_misfit, misfits, spell_element}
 use Rattle.dts_parse.specs.declared.mode.Breach.{Breach}
 use Rattle.dts_parse.specs.declared.mode.Breach.TheVariants.{S1, S2, S5, S6}
-use Rattle.dts_parse.specs.declared.mode.Listing.TheVariants as listing
-use Rattle.dts_parse.specs.declared.mode.Mode.TheVariants as mode
-use Rattle.dts_parse.specs.declared.sign.Sign.{Sign}
 use Rattle.dts_parse.specs.declared.sign.Sign.TheVariants as sign
 use Rattle.dts_parse.specs.declared.sign.Width.{Width}
 use Rattle.dts_parse.proofs.ExprReads.{closes, level_range, operand_at, operator_at, reads}
-use Rattle.dts_parse.proofs.FrontReads.{context, reads_listed}
+use Rattle.dts_parse.proofs.FrontReads.{reads_listed}
 use Rattle.dts_parse.proofs.Kept.{kept_site, spine}
 use Rattle.dts_parse.proofs.Leading.{IsOther, Leads, Reads, hop}
-use Rattle.dts_parse.proofs.Steps.{halt, if_else, if_then, leads_err, leads_ok, not_ok, walk_on, walked, Walked}
-use Rattle.dts_parse.proofs.ValueReads.{list_at}
+use Rattle.dts_parse.proofs.Steps.{halt, if_then, leads_err, leads_ok, not_ok, walked, Walked}
 
 -- ---- what stands before the last token of an element
 

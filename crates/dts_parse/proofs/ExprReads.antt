@@ -1,8 +1,8 @@
 -- What an expression spells is read as what it is worth.
-use Rattle.std.proofs.Common.{◌≡◌, ◌<◌, ◌≤◌, ℕ, zero, suc, ◌+◌, ◌-◌, Bool, true, false, ◌&&◌, List, [], ◌∷◌, Option, Some, None, Result, Ok, Err, refl, sym, ap, subst, ◌∙◌, nat_le, arith, option_map, if◌then◌else◌}
+use Rattle.std.proofs.Common.{◌≡◌, ◌<◌, ◌≤◌, ℕ, zero, suc, Bool, false, List, [], ◌∷◌, Option, Some, None, refl, ap, ◌∙◌, arith}
 use Rattle.std.proofs.lemmas.Bool.{le-leb, lt-leb}
 use Rattle.dts_parse.specs.Exprs.{Literal, Small, Large, Letter, Tree, Num, Round, Un, Bin, Cond, IsProper, below, count, large, level, literal_sign, more, or_large, spell, worth_of}
-use Rattle.dts_parse.specs.Machine.{Climbed, Shape, Step, behind_operand, chosen, climbed, closed_round, is_include, joined, reduced, taken, tested, walk}
+use Rattle.dts_parse.specs.Machine.{Climbed, Shape, behind_operand, chosen, climbed, closed_round, is_include, joined, reduced, tested}
 use Rattle.dts_parse.specs.Token.{Spot, Token, bin_sign, op_level, token, un_sign}
 use Rattle.dts_parse.specs.declared.expr.BinOp.{BinOp}
 use Rattle.dts_parse.specs.declared.expr.BinOp.TheVariants.{Mul, Div, Rem, Add, Sub, Shl, Shr, Lt, Gt, Le, Ge, Eq, Ne, BitAnd, BitXor, BitOr, And, Or}
@@ -11,7 +11,6 @@ use Rattle.dts_parse.specs.declared.expr.UnOp.TheVariants.{Neg, Flip, Not}
 use Rattle.dts_parse.specs.declared.mode.Frame.{Frame}
 use Rattle.dts_parse.specs.declared.mode.Frame.TheVariants as frame
 use Rattle.dts_parse.specs.declared.mode.Mode.TheVariants as mode
-use Rattle.dts_parse.specs.declared.sign.Sign.{Sign}
 use Rattle.dts_parse.specs.declared.sign.Sign.TheVariants as sign
 use Rattle.dts_parse.specs.declared.sign.Width.{Width}
 use Rattle.dts_parse.specs.Worth.{bin, cond}

@@ -1,8 +1,8 @@
 -- The fault of a walk that stops is the first.
-use Rattle.std.proofs.Common.{◌≡◌, ◌<◌, ◌≤◌, ℕ, zero, suc, ◌+◌, ◌-◌, Bool, true, false, ◌&&◌, List, [], ◌∷◌, ◌++◌, Option, Some, None, Result, Ok, Err, refl, sym, ap, subst, ◌∙◌, arith, inl, inr, length, length-append, append_assoc, if◌then◌else◌}
+use Rattle.std.proofs.Common.{◌≡◌, ◌<◌, ◌≤◌, ℕ, ◌+◌, Bool, true, List, [], ◌∷◌, ◌++◌, Option, Some, None, Result, Ok, Err, refl, sym, ap, subst, ◌∙◌, arith, inl, inr, length, length-append}
 use Rattle.std.specs.Prelude.{◌⊎◌}
 use Rattle.std.proofs.lemmas.Bool.{cases_order}
-use Rattle.dts_lex.specs.Left.{Left, whole}
+use Rattle.dts_lex.specs.Left.{Left}
 use Rattle.dts_lex.specs.Slices.{IsSlice}
 use Rattle.dts_lex.specs.Tokens.{next_of}
 use Rattle.dts_lex.specs.declared.lexer.LexFault.{LexFault}
@@ -11,20 +11,19 @@ use Rattle.dts_lex.proofs.SliceLaws.{are_faults_within, are_slices}
 use Rattle.dts_parse.specs.Exprs.{literal_sign, spell}
 use Rattle.dts_parse.specs.Fronts.{Front, At_site, In_list, Listed, expression, in_expression, is_opening, nested, spell_front, spell_listed}
 use Rattle.dts_parse.specs.Machine.{Fault, Shape, Step, in_rounds, is_include, step, stop, taken, walk}
-use Rattle.dts_parse.specs.Source.{AreTokens, IsBroken, IsFirst, IsS1, IsS2, IsS5, IsS6, IsTooMuch, NoneTakes, sign_of, slice_of, token_of}
-use Rattle.dts_parse.specs.Statements.{AreFit, Pieces, place, spell_pieces, takes_top}
-use Rattle.dts_parse.specs.Token.{Spot, Token, token}
-use Rattle.dts_parse.specs.Values.{Element, Lone, Group, Refer, element_place, is_misfit, spell_element}
+use Rattle.dts_parse.specs.Source.{AreTokens, IsBroken, IsFirst, IsS1, IsS2, IsS5, IsS6, IsTooMuch, NoneTakes, token_of}
+use Rattle.dts_parse.specs.Token.{Token, token}
+use Rattle.dts_parse.specs.Values.{Element, Lone, Group, Refer, element_place, spell_element}
 use Rattle.dts_parse.specs.declared.mode.Breach.{Breach}
 use Rattle.dts_parse.specs.declared.mode.Breach.TheVariants.{S1, S2, S5, S6}
 use Rattle.dts_parse.specs.declared.sign.Sign.TheVariants as sign
 use Rattle.dts_parse.specs.declared.sign.Width.{Width}
 use Rattle.dts_parse.proofs.Elements.{Behind, init, inner_stops, last_token, misfit_ends, misfit_not_ok, parts_are, spell_behind}
 use Rattle.dts_parse.proofs.Kept.{kept}
-use Rattle.dts_parse.proofs.Leading.{IsOther, Leads}
-use Rattle.dts_parse.proofs.Order.{Ahead, Compared, Same, Shorter, Longer, Follows, Places, Prefix, compare, follows, left_same, next_token, places, prefix, some_not_err, some_not_none, token_same}
+use Rattle.dts_parse.proofs.Leading.{IsOther}
+use Rattle.dts_parse.proofs.Order.{Same, Shorter, Longer, Follows, Places, Prefix, compare, follows, left_same, next_token, places, prefix, token_same}
 use Rattle.dts_parse.proofs.Sound.{Grown, Misfit, Sound, SoundFault, with_element}
-use Rattle.dts_parse.proofs.Steps.{By_include, By_depth, By_length, By_length_misfit, By_token, Reached, Stopped, Walked, depth_is, err_prefix, front_after, front_state, grows, halt, if_then, is_token, leads_err, long_is, much_stops, not_ok, ok_prefix, reach, rounds_is, sound_at, stopped, walk_on, walked}
+use Rattle.dts_parse.proofs.Steps.{By_include, By_depth, By_length, By_length_misfit, By_token, Reached, Stopped, Walked, depth_is, err_prefix, front_after, grows, halt, if_then, is_token, leads_err, long_is, much_stops, not_ok, ok_prefix, reach, rounds_is, sound_at, stopped, walk_on, walked}
 
 -- ---- where other tokens stand
 

@@ -1,10 +1,10 @@
 -- The innermost case leaves the stack.
-use Rattle.std.proofs.Common.{◌≡◌, ◌<◌, ◌≤◌, ℕ, zero, suc, ◌+◌, ◌-◌, List, [], ◌∷◌, ◌++◌, Option, Some, None, length, take, refl, sym, ap, ◌∙◌, arith}
+use Rattle.std.proofs.Common.{◌≡◌, ◌<◌, ℕ, zero, suc, ◌-◌, List, [], ◌∷◌, ◌++◌, Option, Some, length, take, sym, ap, ◌∙◌, arith}
 use Rattle.std.specs.Prelude.{reverse}
 use Rattle.std.specs.List.{slice_get}
 use Rattle.std.proofs.lemmas.List.{reverse-append}
 use Rattle.std.proofs.lemmas.Option.{slice_get_within}
-use Rattle.dts_parse.specs.Machine.{Climbed, climbed, reduced}
+use Rattle.dts_parse.specs.Machine.{climbed, reduced}
 use Rattle.dts_parse.specs.declared.mode.Frame.{Frame}
 use Rattle.dts_parse.proofs.ExprReads.{climbed_some}
 

@@ -1,14 +1,11 @@
 -- What pieces and fronts spell is read as what is kept of them.
-use Rattle.std.proofs.Common.{◌≡◌, ◌≤◌, ℕ, zero, suc, Bool, true, false, not, ◌&&◌, ◌||◌, List, [], ◌∷◌, ◌++◌, Option, Some, None, Result, Ok, Err, refl, sym, ap, subst, ◌∙◌, arith, if◌then◌else◌}
+use Rattle.std.proofs.Common.{◌≡◌, ◌≤◌, ℕ, suc, Bool, true, false, not, ◌&&◌, ◌||◌, List, [], ◌∷◌, ◌++◌, Some, Ok, refl, sym, subst, ◌∙◌, arith}
 use Rattle.dts_parse.specs.Exprs.{Waiting, Start, In_round, In_un, In_bin, In_cond, In_else, AreProper, IsProper, Tree, count, count_waiting, large, large_waiting, level, more, room, rounds, spell, spell_waiting, worth_of}
 use Rattle.dts_parse.specs.Fronts.{Beginning, Begun, First_number, Second_number, Deleted_ref, Omitted_ref, Deleted_child, Deleted_prop, Front, In_body, At_name, At_brace, At_directive, At_end, At_site, At_colon, At_bits, At_angle, Before_operand, After_operand, Listed, Opening, Root_, Ref_, Site, In_value, After_part, In_list, In_hex, braces, directive_place, fits_lead, may_name, opening_token, spell_beginning, spell_begun, spell_front, spell_list, spell_listed, spell_site, takes_begun, wanted_of}
-use Rattle.dts_parse.specs.Machine.{Climbed, Shape, Step, at_brace, climbed, place_now, start, taken}
-use Rattle.dts_parse.specs.Statements.{AreFit, Lead, No_lead, Label_lead, Mark_lead, Numeral, Small_, Large_, Pieces, Nothing_yet, Short_, Open_root, Open_ref, Open_child, Flag_, Assign_, Place, Short, Version_, Plugin_, Reserve_, Delete_ref, Omit_ref, Delete_child, Delete_prop, End_node, is_empty, labels_of, marks_of, numeral_sign, place, script, spell_lead, spell_pieces, spell_short, takes_inner, takes_short, takes_top, takes_version}
-use Rattle.dts_parse.specs.StmtData.{StmtData}
-use Rattle.dts_parse.specs.Token.{Name, Spot, Token, is_label_form, is_node_form, is_prop_form, bin_sign, name_token, op_level, token}
-use Rattle.dts_parse.specs.Values.{Before, Labels, No_labels, Written, bytes_of, cells_of, listing_of, pair_bytes, pair_listing, part_of, parts_of, spell_before, spell_elements, spell_head, spell_labels, spell_pairs, spell_written}
-use Rattle.dts_parse.specs.declared.expr.BinOp.{BinOp}
-use Rattle.dts_parse.specs.declared.mode.Frame.{Frame}
+use Rattle.dts_parse.specs.Machine.{Shape, taken}
+use Rattle.dts_parse.specs.Statements.{AreFit, Lead, No_lead, Label_lead, Mark_lead, Small_, Large_, Pieces, Nothing_yet, Short_, Open_root, Open_ref, Open_child, Flag_, Assign_, Place, Short, Version_, Plugin_, Reserve_, Delete_ref, Omit_ref, Delete_child, Delete_prop, End_node, is_empty, labels_of, marks_of, place, script, spell_lead, spell_pieces, spell_short, takes_inner, takes_short, takes_top, takes_version}
+use Rattle.dts_parse.specs.Token.{Name, Spot, is_node_form, is_prop_form, bin_sign, name_token, op_level, token}
+use Rattle.dts_parse.specs.Values.{Before, Labels, No_labels, bytes_of, cells_of, listing_of, pair_bytes, part_of, parts_of}
 use Rattle.dts_parse.specs.declared.mode.Frame.TheVariants as frame
 use Rattle.dts_parse.specs.declared.mode.Listing.TheVariants as listing
 use Rattle.dts_parse.specs.declared.mode.Mode.TheVariants as mode
@@ -17,10 +14,10 @@ use Rattle.dts_parse.specs.declared.sign.Form.{Form}
 use Rattle.dts_parse.specs.declared.sign.Form.TheVariants as form
 use Rattle.dts_parse.specs.declared.sign.Sign.TheVariants as sign
 use Rattle.dts_parse.specs.declared.sign.Width.{Width}
-use Rattle.dts_parse.proofs.ExprReads.{chooses, closes, joins, level_range, no_include, op_range, operand_at, operator_at, reads, reads_un, room_of, stays, tests}
-use Rattle.dts_parse.proofs.Kept.{ending, frames_of, kept, kept_site, opening_stmt, resting, spine, valuing}
-use Rattle.dts_parse.proofs.Leading.{Leads, Moves, Reads, go, hop, moves, reads_at}
-use Rattle.dts_parse.proofs.ValueReads.{if_false, if_true, list_at, list_labels, pairs_at, pairs_labels, part_at, part_labels, reads_angle, reads_before, reads_bits, reads_elements, reads_head, reads_pairs, reads_written, value_at, value_labels}
+use Rattle.dts_parse.proofs.ExprReads.{chooses, closes, joins, level_range, no_include, op_range, operand_at, reads, reads_un, room_of, stays, tests}
+use Rattle.dts_parse.proofs.Kept.{ending, frames_of, kept, kept_site, opening_stmt, resting, spine}
+use Rattle.dts_parse.proofs.Leading.{Reads, go, hop}
+use Rattle.dts_parse.proofs.ValueReads.{if_false, if_true, list_at, list_labels, pairs_at, pairs_labels, part_labels, reads_angle, reads_before, reads_bits, reads_elements, reads_head, reads_pairs, reads_written, value_labels}
 
 -- ---- tests
 

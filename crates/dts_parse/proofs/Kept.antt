@@ -1,12 +1,11 @@
 -- What the reader keeps at a front.
-use Rattle.std.proofs.Common.{ℕ, suc, Bool, true, false, List, [], ◌∷◌, ◌++◌, Option, Some, None, option_map}
+use Rattle.std.proofs.Common.{suc, Bool, true, List, [], ◌∷◌, ◌++◌, Some}
 use Rattle.dts_parse.specs.Exprs.{Tree, Num, Round, Un, Bin, Cond, Waiting, Start, In_round, In_un, In_bin, In_cond, In_else, count, count_waiting, large, large_waiting, rounds, worth_of, literal_worth}
-use Rattle.dts_parse.specs.Fronts.{Beginning, Begun, Front, In_body, At_name, At_brace, At_directive, At_end, At_site, At_colon, At_bits, At_angle, Before_operand, After_operand, Site, In_value, After_part, In_list, In_hex, Listed, Opening, Root_, Ref_, braces, directive_place, wanted_of}
+use Rattle.dts_parse.specs.Fronts.{Beginning, Front, In_body, At_name, At_brace, At_directive, At_end, At_site, At_colon, At_bits, At_angle, Before_operand, After_operand, Site, In_value, After_part, In_list, In_hex, Opening, Root_, Ref_, braces, directive_place, wanted_of}
 use Rattle.dts_parse.specs.Machine.{Climbed, Shape, start}
 use Rattle.dts_parse.specs.Statements.{Pieces, Short, labels_of, marks_of, place, place_behind, script, with_short}
 use Rattle.dts_parse.specs.StmtData.{StmtData, Open, stmt}
 use Rattle.dts_parse.specs.Texts.{target_of}
-use Rattle.dts_parse.specs.Token.{Name}
 use Rattle.dts_parse.specs.Values.{Before, bytes_of, cells_of, listing_of, pair_bytes, pair_listing, part_of, parts_of}
 use Rattle.dts_parse.specs.declared.mode.Frame.{Frame}
 use Rattle.dts_parse.specs.declared.mode.Frame.TheVariants as frame

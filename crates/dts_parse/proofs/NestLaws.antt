@@ -1,29 +1,25 @@
 -- The script of a source nests well.
-use Rattle.std.proofs.Common.{◌≡◌, ◌<◌, ◌≤◌, ℕ, zero, suc, ◌+◌, ◌-◌, ◌%◌, ◌^◌, Bool, true, false, not, ◌&&◌, ◌||◌, List, [], ◌∷◌, ◌++◌, Option, Some, None, Result, Ok, length, drop, take, nat_eq, refl, sym, ap, subst, ◌∙◌, arith, append-nil, append_assoc, unwrap_or, if◌then◌else◌}
+use Rattle.std.proofs.Common.{◌≡◌, ℕ, zero, suc, Bool, true, false, not, ◌&&◌, ◌||◌, List, [], ◌∷◌, ◌++◌, Option, Some, None, drop, take, nat_eq, refl, sym, ap, subst, ◌∙◌, append_assoc, unwrap_or, if◌then◌else◌}
 use Rattle.std.specs.Option.{option_and_then}
 use Rattle.std.specs.List.{list_all, list_any, prefix_len}
-use Rattle.std.specs.Int.{w16, w64, to_be_bytes}
-use Rattle.std.proofs.lemmas.Bool.{and_from, and_parts, eq-eqb, eqb-true}
+use Rattle.std.proofs.lemmas.Bool.{and_from, and_parts, eqb-true}
 use Rattle.std.proofs.lemmas.List.{take-append-drop}
 use Rattle.dts_lex.specs.Bytes.{is_node_byte, is_plain, begins_label}
-use Rattle.dts_lex.specs.Left.{Left}
 use Rattle.dts_lex.specs.Names.{is_label, is_no_sign, is_node_name, is_node_word, is_prop_name, is_unit}
-use Rattle.edt_base.specs.declared.node.Kind.TheVariants as kind
-use Rattle.dts_parse.specs.Exprs.{Literal, literal_worth, worth_of}
-use Rattle.dts_parse.specs.Nested.{IsNested, AreRising, act_refs, ends_with_zero, fits_place, is_even, is_good_cell, is_good_name, is_good_part, is_reference, nest, nested, refs, target_refs}
-use Rattle.dts_parse.specs.Statements.{AreFit, Lead, No_lead, Label_lead, Mark_lead, Pieces, Nothing_yet, Short_, Open_root, Open_ref, Open_child, Flag_, Assign_, Place, Short, Version_, Plugin_, Reserve_, Delete_ref, Omit_ref, Delete_child, Delete_prop, End_node, below, head, is_empty, labels_of, marks_of, omits, place, place_behind, script, tail, takes_inner, takes_top, with_short}
-use Rattle.dts_parse.specs.StmtData.{ActData, PartData, StmtData, Plain, Cells, Path, Open, Close, Label, Assign, DelProp, DelNode, Omit, stmt}
-use Rattle.dts_parse.specs.Texts.{begins_path, element_bytes, target_of, text_bytes, unescaped, within}
-use Rattle.dts_parse.specs.Token.{Name, form_of, is_ascii, is_node_form, name_form}
-use Rattle.dts_parse.specs.Values.{Before, Nothing, Comma_, Element, Lone, Group, Refer, Elements, None_yet, Then, Written, Text_, Path_, List_, Hex_, bytes_of, bytes_with, cells_of, cells_with, list_data, part_of, parts_of}
+use Rattle.dts_parse.specs.Exprs.{literal_worth, worth_of}
+use Rattle.dts_parse.specs.Nested.{act_refs, ends_with_zero, fits_place, is_even, is_good_cell, is_good_name, is_good_part, is_reference, nest, nested, refs}
+use Rattle.dts_parse.specs.Statements.{AreFit, Lead, No_lead, Label_lead, Mark_lead, Pieces, Nothing_yet, Short_, Open_root, Open_ref, Open_child, Flag_, Assign_, Short, Version_, Plugin_, Reserve_, Delete_ref, Omit_ref, Delete_child, Delete_prop, End_node, below, head, is_empty, labels_of, marks_of, omits, place, place_behind, script, tail, takes_top, with_short}
+use Rattle.dts_parse.specs.StmtData.{ActData, StmtData, Open, Close, Assign, DelProp, DelNode, Omit, stmt}
+use Rattle.dts_parse.specs.Texts.{begins_path, element_bytes, target_of, unescaped, within}
+use Rattle.dts_parse.specs.Token.{Name, is_ascii, is_node_form, name_form}
+use Rattle.dts_parse.specs.Values.{Before, Nothing, Comma_, Lone, Group, Refer, Elements, None_yet, Then, Written, Text_, Path_, List_, Hex_, bytes_of, cells_of, cells_with, list_data, part_of, parts_of}
 use Rattle.dts_parse.specs.declared.script.RawCell.{RawCell}
-use Rattle.dts_parse.specs.declared.script.RawCell.TheVariants as cell
 use Rattle.dts_parse.specs.declared.script.Target.{Target}
 use Rattle.dts_parse.specs.declared.script.Target.TheVariants as target
 use Rattle.dts_parse.specs.declared.sign.Form.{Form}
 use Rattle.dts_parse.specs.declared.sign.Form.TheVariants as form
 use Rattle.dts_parse.specs.declared.sign.Width.{Width}
-use Rattle.dts_parse.specs.declared.sign.Width.TheVariants.{W8, W16, W32, W64}
+use Rattle.dts_parse.specs.declared.sign.Width.TheVariants.{Bits8, Bits16, Bits32, Bits64}
 
 -- ---- lists of statements
 
@@ -161,25 +157,25 @@ all_append : {A : Type 0} (p : A → Bool) (xs ys : List A) → list_all p xs �
 all_append p [] ys h k = k
 all_append p (x ∷ xs) ys h k = let m : (p x ≡ true) × (list_all p xs ≡ true) = and_parts _ _ h in and_from (p x) (list_all p (xs ++ ys)) m.0 (all_append p xs ys m.1 k)
 
-good_cells_with : (n : Option ℕ) (cells : List RawCell) → list_all is_good_cell cells ≡ true → list_all is_good_cell (cells_with W32 n cells) ≡ true
+good_cells_with : (n : Option ℕ) (cells : List RawCell) → list_all is_good_cell cells ≡ true → list_all is_good_cell (cells_with Bits32 n cells) ≡ true
 good_cells_with n cells h = all_append is_good_cell cells _ h refl
 
-good_cells : (es : Elements W32) → list_all is_good_cell (cells_of W32 es) ≡ true
+good_cells : (es : Elements Bits32) → list_all is_good_cell (cells_of Bits32 es) ≡ true
 good_cells None_yet = refl
-good_cells (Then es ls (Lone l p)) = good_cells_with (literal_worth l) (cells_of W32 es) (good_cells es)
-good_cells (Then es ls (Group b e is f)) = good_cells_with (worth_of e) (cells_of W32 es) (good_cells es)
-good_cells (Then es ls (Refer is p)) = all_append is_good_cell (cells_of W32 es) _ (good_cells es) (and_from (is_reference (target_of p.text)) true (target_reference p.text) refl)
+good_cells (Then es ls (Lone l p)) = good_cells_with (literal_worth l) (cells_of Bits32 es) (good_cells es)
+good_cells (Then es ls (Group b e is f)) = good_cells_with (worth_of e) (cells_of Bits32 es) (good_cells es)
+good_cells (Then es ls (Refer is p)) = all_append is_good_cell (cells_of Bits32 es) _ (good_cells es) (and_from (is_reference (target_of p.text)) true (target_reference p.text) refl)
 
 abbrev IsWide : Width → Type 0
-IsWide W16 = Unit {0}
-IsWide W64 = Unit {0}
+IsWide Bits16 = Unit {0}
+IsWide Bits64 = Unit {0}
 IsWide _ = ⊥
 
 even_element : (w : Width) (n : ℕ) → IsWide w → is_even (element_bytes w n) ≡ true
-even_element W8 n h = absurd h
-even_element W16 n h = refl
-even_element W32 n h = refl
-even_element W64 n h = refl
+even_element Bits8 n h = absurd h
+even_element Bits16 n h = refl
+even_element Bits32 n h = refl
+even_element Bits64 n h = refl
 
 even_bytes : (w : Width) (es : Elements w) → IsWide w → is_even (bytes_of w es) ≡ true
 even_bytes w None_yet h = refl
@@ -188,10 +184,10 @@ even_bytes w (Then es ls (Group b e is f)) h = even_append (bytes_of w es) _ (ev
 even_bytes w (Then es ls (Refer is p)) h = even_bytes w es h
 
 good_list : (w : Width) (es : Elements w) → is_good_part (list_data w (cells_of w es) (bytes_of w es)) ≡ true
-good_list W8 es = refl
-good_list W16 es = even_bytes W16 es tt
-good_list W32 es = good_cells es
-good_list W64 es = even_bytes W64 es tt
+good_list Bits8 es = refl
+good_list Bits16 es = even_bytes Bits16 es tt
+good_list Bits32 es = good_cells es
+good_list Bits64 es = even_bytes Bits64 es tt
 
 good_part : (part : Written) → is_good_part (part_of part) ≡ true
 good_part (Text_ p) = zero_last (unescaped 0 (within 1 p.text))

@@ -1,23 +1,23 @@
 -- Reading a source, token for token.
-use Rattle.std.proofs.Common.{◌≡◌, ◌<◌, ◌≤◌, ℕ, zero, suc, ◌+◌, ◌-◌, Bool, true, false, List, [], ◌∷◌, ◌++◌, Option, Some, None, Result, Ok, Err, length, length-append, refl, sym, ap, subst, ◌∙◌, arith}
+use Rattle.std.proofs.Common.{◌≡◌, ◌<◌, ◌≤◌, ℕ, ◌+◌, Bool, true, false, List, [], ◌∷◌, ◌++◌, Option, Some, None, Result, Ok, Err, length, length-append, refl, sym, ap, subst, ◌∙◌, arith}
 use Rattle.dts_lex.specs.Left.{Left, whole}
 use Rattle.dts_lex.specs.Slices.{IsSlice}
 use Rattle.dts_lex.specs.Tokens.{next_of}
 use Rattle.dts_lex.specs.declared.lexer.LexFault.{LexFault}
 use Rattle.dts_lex.specs.declared.lexer.Span.{Span}
 use Rattle.dts_lex.proofs.SliceLaws.{are_slices}
-use Rattle.dts_parse.specs.Machine.{Fault, Shape, Step, is_whole, start, step, walk}
+use Rattle.dts_parse.specs.Machine.{Fault, Shape, is_whole, start, step}
 use Rattle.dts_parse.specs.Outcome.{IsAnswer, IsSoFar, IsStop}
 use Rattle.dts_parse.specs.Shown.{Leaves}
-use Rattle.dts_parse.specs.Source.{AreTokens, IsFirst, NoneTakes, token_of}
+use Rattle.dts_parse.specs.Source.{IsFirst, NoneTakes, token_of}
 use Rattle.dts_parse.specs.Token.{Token}
 use Rattle.dts_parse.specs.declared.mode.Breach.{Breach}
 use Rattle.dts_parse.specs.declared.mode.Breach.TheVariants.{S1}
 use Rattle.dts_parse.specs.declared.stop.Stop.{Stop as Halt}
 use Rattle.dts_parse.specs.declared.stop.Stop.TheVariants as stops
-use Rattle.dts_parse.proofs.First.{NoNext, Stop, first_end, first_token, within_source}
+use Rattle.dts_parse.proofs.First.{first_end, first_token, within_source}
 use Rattle.dts_parse.proofs.Order.{next_token, some_not_err, some_not_none}
-use Rattle.dts_parse.proofs.Steps.{halt, walk_on}
+use Rattle.dts_parse.proofs.Steps.{walk_on}
 use Rattle.dts_parse.proofs.Whole.{found, not_whole, only, sound_whole}
 
 pub so_far_start : (src : List ℕ) (base : Bool) (s : Shape) → s ≡ start base → IsSoFar src base (whole src) s

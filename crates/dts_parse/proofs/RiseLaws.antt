@@ -1,16 +1,14 @@
 -- The references of a script rise, as the tokens of its source do.
-use Rattle.std.proofs.Common.{◌≡◌, ◌<◌, ◌≤◌, ℕ, zero, suc, ◌+◌, Bool, true, false, List, [], ◌∷◌, ◌++◌, Option, Some, None, refl, sym, ap, subst, ◌∙◌, arith, append-nil, append_assoc, if◌then◌else◌}
+use Rattle.std.proofs.Common.{◌≡◌, ◌<◌, ◌≤◌, ℕ, Bool, true, List, [], ◌∷◌, ◌++◌, refl, sym, ap, subst, ◌∙◌, arith, append-nil}
 use Rattle.dts_lex.specs.Left.{Left}
 use Rattle.dts_parse.specs.Nested.{AreRising, IsNested, act_refs, is_reference, refs}
 use Rattle.dts_parse.specs.Source.{AreTokens, IsScript}
-use Rattle.dts_parse.specs.Statements.{AreFit, Lead, No_lead, Label_lead, Mark_lead, Numeral, Pieces, Nothing_yet, Short_, Open_root, Open_ref, Open_child, Flag_, Assign_, Place, Short, Version_, Plugin_, Reserve_, Delete_ref, Omit_ref, Delete_child, Delete_prop, End_node, head, labels_of, marks_of, numeral_sign, omits, place, place_behind, script, spell_lead, spell_pieces, spell_short, tail, with_short}
-use Rattle.dts_parse.specs.StmtData.{ActData, StmtData, Open, Close, Label, Assign, DelProp, DelNode, Omit, stmt}
+use Rattle.dts_parse.specs.Statements.{Lead, No_lead, Label_lead, Mark_lead, Pieces, Nothing_yet, Short_, Open_root, Open_ref, Open_child, Flag_, Assign_, Place, Short, Version_, Plugin_, Reserve_, Delete_ref, Omit_ref, Delete_child, Delete_prop, End_node, head, labels_of, marks_of, numeral_sign, omits, place, place_behind, script, spell_lead, spell_pieces, spell_short, tail, with_short}
+use Rattle.dts_parse.specs.StmtData.{ActData, StmtData, Open, Close, DelNode, Omit, stmt}
 use Rattle.dts_parse.specs.Texts.{target_of}
-use Rattle.dts_parse.specs.Token.{Name, Spot, Token, name_token, token}
+use Rattle.dts_parse.specs.Token.{Spot, Token, token}
 use Rattle.dts_parse.specs.Values.{Before, Nothing, Comma_, Element, Lone, Group, Refer, Elements, None_yet, Then, Head, Angle_, Bits_, Labels, No_labels, Label_, Pairs, No_pair, And_pair, Written, Text_, Path_, List_, Hex_, spell_before, spell_element, spell_elements, spell_head, spell_labels, spell_pairs, spell_written}
 use Rattle.dts_parse.specs.declared.script.Target.{Target}
-use Rattle.dts_parse.specs.declared.sign.Form.TheVariants as form
-use Rattle.dts_parse.specs.declared.sign.Sign.{Sign}
 use Rattle.dts_parse.specs.declared.sign.Sign.TheVariants as sign
 use Rattle.dts_parse.specs.declared.sign.Width.{Width}
 use Rattle.dts_parse.proofs.Elements.{Behind, behind_on, behind_one, spell_behind}

@@ -1,18 +1,17 @@
 -- A token that is taken at a front leads to a front that spells it too.
-use Rattle.std.proofs.Common.{◌≡◌, ◌<◌, ◌≤◌, ℕ, zero, suc, Bool, true, false, not, ◌&&◌, ◌||◌, List, [], ◌∷◌, ◌++◌, Option, Some, None, Result, Ok, Err, refl, sym, ap, subst, ◌∙◌, arith, if◌then◌else◌}
+use Rattle.std.proofs.Common.{◌≡◌, ◌≤◌, ℕ, suc, Bool, true, false, ◌&&◌, ◌||◌, List, [], ◌∷◌, ◌++◌, Option, Some, None, Ok, Err, refl, sym, ap, subst, ◌∙◌, arith, if◌then◌else◌}
 use Rattle.std.proofs.lemmas.Bool.{and_parts}
 use Rattle.std.specs.List.{list_all}
-use Rattle.dts_parse.specs.Exprs.{Literal, Small, Large, Letter, Tree, Num, Round, Un, Bin, Cond, IsProper, Waiting, Start, In_round, In_un, In_bin, In_cond, In_else, AreProper, count, count_waiting, large, large_waiting, level, literal_sign, literal_worth, more, or_large, room, rounds, spell, spell_waiting, worth_of}
+use Rattle.dts_parse.specs.Exprs.{Small, Large, Letter, Tree, Num, Round, Un, Bin, Cond, IsProper, Waiting, Start, In_round, In_un, In_bin, In_cond, In_else, AreProper, count, count_waiting, large, large_waiting, level, more, room, rounds, spell, spell_waiting, worth_of}
 use Rattle.dts_parse.specs.Fronts.{Beginning, Begun, First_number, Second_number, Deleted_ref, Omitted_ref, Deleted_child, Deleted_prop, Front, In_body, At_name, At_brace, At_directive, At_end, At_site, At_colon, At_bits, At_angle, Before_operand, After_operand, Listed, Opening, Root_, Ref_, Site, In_value, After_part, In_list, In_hex, braces, fits_lead, may_name, spell_front, spell_listed, takes_begun}
-use Rattle.dts_parse.specs.Machine.{Climbed, Fault, Shape, Step, at_ref, at_width, behind_operand, chosen, climbed, closed_round, is_bare, joined, put, refused, taken, tested, waits_colon}
-use Rattle.dts_parse.specs.Statements.{AreFit, Lead, No_lead, Label_lead, Mark_lead, Numeral, Small_, Large_, Pieces, Nothing_yet, Short_, Open_root, Open_ref, Open_child, Flag_, Assign_, Place, Short, Version_, Plugin_, Reserve_, Delete_ref, Omit_ref, Delete_child, Delete_prop, End_node, below, head, is_empty, labels_of, marks_of, place, tail, takes_inner, takes_short, takes_top, takes_version}
+use Rattle.dts_parse.specs.Machine.{Shape, Step, at_ref, at_width, behind_operand, chosen, climbed, closed_round, is_bare, joined, put, refused, taken, tested, waits_colon}
+use Rattle.dts_parse.specs.Statements.{AreFit, Lead, No_lead, Label_lead, Mark_lead, Small_, Large_, Pieces, Short_, Open_root, Open_ref, Open_child, Flag_, Assign_, Place, Short, Version_, Plugin_, Reserve_, Delete_ref, Omit_ref, Delete_child, Delete_prop, End_node, below, head, is_empty, labels_of, marks_of, place, tail, takes_inner, takes_short, takes_top, takes_version}
 use Rattle.dts_parse.specs.StmtData.{Close, stmt}
 use Rattle.dts_parse.specs.Texts.{width_of}
 use Rattle.dts_parse.specs.Token.{Name, Spot, Token, bin_sign, form_of, is_ascii, is_node_form, is_prop_form, op_level, token}
-use Rattle.dts_parse.specs.Values.{Before, Nothing, Comma_, Labels, No_labels, Label_, Element, Lone, Group, Refer, Elements, None_yet, Then, Pairs, No_pair, And_pair, Head, Angle_, Bits_, Written, Text_, Path_, List_, Hex_, bytes_with, cells_with, element_place, is_misfit, listing_of, may_close, misfits, pair_listing, spell_element}
+use Rattle.dts_parse.specs.Values.{Before, Nothing, Comma_, Labels, No_labels, Label_, Element, Lone, Group, Refer, None_yet, Then, Pairs, No_pair, And_pair, Angle_, Bits_, Written, Text_, Path_, List_, Hex_, bytes_with, cells_with, element_place, is_misfit, listing_of, may_close, misfits, pair_listing, spell_element}
 use Rattle.dts_parse.specs.declared.expr.BinOp.{BinOp}
 use Rattle.dts_parse.specs.declared.expr.BinOp.TheVariants.{Mul, Div, Rem, Add, Sub, Shl, Shr, Lt, Gt, Le, Ge, Eq, Ne, BitAnd, BitXor, BitOr, And, Or}
-use Rattle.dts_parse.specs.declared.expr.UnOp.{UnOp}
 use Rattle.dts_parse.specs.declared.expr.UnOp.TheVariants.{Neg, Flip, Not}
 use Rattle.dts_parse.specs.declared.mode.Breach.{Breach}
 use Rattle.dts_parse.specs.declared.mode.Breach.TheVariants.{S1, S2, S5, S6}
@@ -29,11 +28,11 @@ use Rattle.dts_parse.specs.declared.sign.Form.TheVariants as form
 use Rattle.dts_parse.specs.declared.sign.Sign.{Sign}
 use Rattle.dts_parse.specs.declared.sign.Sign.TheVariants as sign
 use Rattle.dts_parse.specs.declared.sign.Width.{Width}
-use Rattle.dts_parse.specs.declared.sign.Width.TheVariants.{W8, W16, W32, W64}
+use Rattle.dts_parse.specs.declared.sign.Width.TheVariants.{Bits8, Bits16, Bits32, Bits64}
 use Rattle.dts_parse.proofs.Climbs.{Climb, climb, room_left, room_some, room_whole}
 use Rattle.dts_parse.proofs.ExprReads.{op_range}
 use Rattle.dts_parse.proofs.FrontReads.{empty_more, leading, or_first}
-use Rattle.dts_parse.proofs.Kept.{frames_of, kept, kept_site, resting}
+use Rattle.dts_parse.proofs.Kept.{frames_of, kept, kept_site}
 use Rattle.dts_parse.proofs.ValueReads.{more_is, more_pairs}
 
 -- a name has its form, and a reference is ASCII
@@ -247,7 +246,7 @@ sound_value : (base : Bool) (top : Beginning base) (b : Before) (ls : Labels) (t
     → Sound base (At_site (In_value top b ls)) (token t p) (taken (kept (At_site (In_value top b ls))) p t)
 sound_value base top b ls sign.Str p is = grown (At_site (After_part top b ls (Text_ p) No_labels)) refl refl tt
 sound_value base top b ls sign.Ref p is = grown (At_site (After_part top b ls (Path_ p) No_labels)) refl refl tt
-sound_value base top b ls sign.Less p is = grown (At_site (In_list W32 (record { top = top; b = b; ls = ls; h = Angle_ refl p; es = None_yet; now = No_labels }))) refl refl tt
+sound_value base top b ls sign.Less p is = grown (At_site (In_list Bits32 (record { top = top; b = b; ls = ls; h = Angle_ refl p; es = None_yet; now = No_labels }))) refl refl tt
 sound_value base top b ls sign.LeftSquare p is = grown (At_site (In_hex top b ls p No_pair No_labels)) refl refl tt
 sound_value base top b ls sign.Bits p is = grown (At_bits top b ls p) refl refl tt
 sound_value base top b ls (sign.Name f) p is = sound_waits base (In_value top b ls) f p is
@@ -272,10 +271,10 @@ sound_put base f t w l e huge n at s spells fits place_is keeps =
     (λ _. grown (At_site (In_list w (with_element w l e))) spells keeps tt)
 
 sound_ref : (base : Bool) (w : Width) (l : Listed base w) (p : Spot) → Sound base (At_site (In_list w l)) (token sign.Ref p) (at_ref w (kept_site (In_list w l)) p)
-sound_ref base W8 l p = refl
-sound_ref base W16 l p = refl
-sound_ref base W32 l p = grown (At_site (In_list W32 (with_element W32 l (Refer refl p)))) refl refl tt
-sound_ref base W64 l p = refl
+sound_ref base Bits8 l p = refl
+sound_ref base Bits16 l p = refl
+sound_ref base Bits32 l p = grown (At_site (In_list Bits32 (with_element Bits32 l (Refer refl p)))) refl refl tt
+sound_ref base Bits64 l p = refl
 
 sound_list : (base : Bool) (w : Width) (l : Listed base w) (t : Sign) (p : Spot) → IsToken t p.text
     → Sound base (At_site (In_list w l)) (token t p) (taken (kept (At_site (In_list w l))) p t)

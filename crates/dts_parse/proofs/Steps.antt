@@ -1,14 +1,12 @@
 -- What a step tells: of a token that is taken, and of one that is not.
-use Rattle.std.proofs.Common.{◌≡◌, ◌<◌, ◌≤◌, ℕ, zero, suc, Bool, true, false, ◌&&◌, List, [], ◌∷◌, ◌++◌, Option, Some, None, Result, Ok, Err, refl, sym, ap, subst, ◌∙◌, nat_le, arith, if◌then◌else◌}
-use Rattle.std.specs.Prelude.{◌⊎◌}
+use Rattle.std.proofs.Common.{◌≡◌, ◌≤◌, ℕ, Bool, true, false, ◌&&◌, List, [], ◌∷◌, ◌++◌, Ok, Err, refl, sym, ap, subst, ◌∙◌, nat_le, if◌then◌else◌}
 use Rattle.std.proofs.Common.{inl, inr}
 use Rattle.std.proofs.lemmas.Bool.{and_parts, leb-true, le-leb}
-use Rattle.dts_lex.specs.Left.{Left, whole}
-use Rattle.dts_lex.specs.Tokens.{next_of}
+use Rattle.dts_lex.specs.Left.{Left}
 use Rattle.dts_lex.specs.declared.lexer.Span.{Span}
-use Rattle.dts_parse.specs.Fronts.{Front, In_body, At_name, At_brace, At_directive, At_end, At_site, At_colon, At_bits, At_angle, Before_operand, After_operand, Site, In_value, After_part, In_list, In_hex, expression, in_expression, is_opening, nested, spell_front}
+use Rattle.dts_parse.specs.Fronts.{Front, In_body, At_name, At_brace, At_directive, At_end, At_site, At_colon, At_bits, At_angle, Before_operand, After_operand, In_value, After_part, In_list, In_hex, expression, in_expression, is_opening, nested, spell_front}
 use Rattle.dts_parse.specs.Machine.{Fault, Shape, Step, in_rounds, is_include, limited, limited_by, start, step, step_on, stop, taken, walk}
-use Rattle.dts_parse.specs.Source.{AreTokens, IsTooMuch, sign_of, slice_of, token_of}
+use Rattle.dts_parse.specs.Source.{AreTokens, IsTooMuch, slice_of, token_of}
 use Rattle.dts_parse.specs.Statements.{No_lead, Nothing_yet}
 use Rattle.dts_parse.specs.Token.{Spot, Token}
 use Rattle.dts_parse.specs.declared.mode.Breach.{Breach}
@@ -17,10 +15,9 @@ use Rattle.dts_parse.specs.declared.sign.Sign.{Sign}
 use Rattle.dts_parse.specs.declared.sign.Sign.TheVariants as sign
 use Rattle.dts_parse.proofs.FrontReads.{reads_front}
 use Rattle.dts_parse.proofs.Kept.{kept}
-use Rattle.dts_parse.proofs.Leading.{IsOther, Leads, Reads}
-use Rattle.dts_parse.proofs.Order.{Follows, follows}
-use Rattle.dts_parse.proofs.Sound.{Grown, IsSharp, IsToken, Misfit, Sound, sound}
-use Rattle.dts_parse.proofs.Typed.{Typed, typed}
+use Rattle.dts_parse.proofs.Leading.{IsOther, Leads}
+use Rattle.dts_parse.proofs.Sound.{Grown, IsSharp, IsToken, Sound, sound}
+use Rattle.dts_parse.proofs.Typed.{typed}
 
 -- ---- what is kept at a front tells what is open
 

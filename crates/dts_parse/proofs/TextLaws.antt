@@ -1,5 +1,5 @@
 -- An escape's bytes are skipped.
-use Rattle.std.proofs.Common.{◌≡◌, ℕ, zero, suc, List, [], ◌∷◌, ◌++◌, drop, refl, sym, ap, ◌∙◌, append_assoc, append-nil}
+use Rattle.std.proofs.Common.{◌≡◌, ℕ, zero, suc, List, [], ◌∷◌, drop, refl, sym, ap, ◌∙◌}
 use Rattle.std.proofs.Common.{nat_eq, true}
 use Rattle.std.proofs.lemmas.Bool.{eq-eqb}
 use Rattle.dts_lex.specs.Tokens.{escape}

@@ -1,8 +1,8 @@
 -- What a value spells is read as its parts.
-use Rattle.std.proofs.Common.{◌≡◌, ◌≤◌, ℕ, zero, suc, Bool, true, false, ◌&&◌, List, [], ◌∷◌, ◌++◌, Option, Some, None, Result, Ok, Err, refl, sym, ap, subst, ◌∙◌, arith, if◌then◌else◌}
-use Rattle.dts_parse.specs.Exprs.{Literal, Small, Large, Letter, Tree, IsProper, count, large, level, literal_sign, literal_worth, or_large, spell, worth_of}
-use Rattle.dts_parse.specs.Machine.{Climbed, Shape, Step, at_ref, at_width, by_mode, climbed, closed_round, labelled, more_labels, put, taken}
-use Rattle.dts_parse.specs.Values.{Labels, No_labels, Label_, Element, Lone, Group, Refer, Elements, None_yet, Then, Pairs, No_pair, And_pair, Head, Angle_, Bits_, Written, Text_, Path_, List_, Hex_, Before, Nothing, Comma_, bytes_of, bytes_with, cells_of, cells_with, label_listing, listing_of, may_close, misfits, pair_bytes, pair_listing, part_of, parts_of, spell_before, spell_element, spell_elements, spell_head, spell_labels, spell_pairs, spell_written}
+use Rattle.std.proofs.Common.{◌≡◌, ℕ, suc, Bool, true, false, List, [], ◌∷◌, ◌++◌, Option, Some, None, Ok, Err, refl, sym, ap, subst, ◌∙◌, if◌then◌else◌}
+use Rattle.dts_parse.specs.Exprs.{Literal, Small, Large, Letter, Tree, IsProper, count, large, literal_sign, literal_worth, spell, worth_of}
+use Rattle.dts_parse.specs.Machine.{Shape, Step, at_ref, at_width, by_mode, climbed, closed_round, labelled, more_labels, put}
+use Rattle.dts_parse.specs.Values.{Labels, No_labels, Label_, Element, Lone, Group, Refer, Elements, None_yet, Then, Pairs, No_pair, And_pair, Head, Angle_, Bits_, Written, Text_, Path_, List_, Hex_, Before, Nothing, Comma_, bytes_of, bytes_with, cells_of, cells_with, listing_of, may_close, misfits, pair_bytes, pair_listing, part_of, parts_of, spell_before, spell_element, spell_elements, spell_head, spell_labels, spell_pairs, spell_written}
 use Rattle.dts_parse.specs.StmtData.{PartData}
 use Rattle.dts_parse.specs.Texts.{target_of, width_of}
 use Rattle.dts_parse.specs.Token.{Name, Spot, Token, name_token, token}
@@ -16,10 +16,9 @@ use Rattle.dts_parse.specs.declared.script.RawCell.TheVariants as cell
 use Rattle.dts_parse.specs.declared.sign.Form.TheVariants as form
 use Rattle.dts_parse.specs.declared.sign.Sign.TheVariants as sign
 use Rattle.dts_parse.specs.declared.sign.Width.{Width}
-use Rattle.dts_parse.specs.declared.sign.Width.TheVariants.{W8, W16, W32, W64}
 use Rattle.dts_parse.proofs.ExprReads.{closes, level_range, operand_at, operator_at, reads}
 use Rattle.dts_parse.proofs.Kept.{spine}
-use Rattle.dts_parse.proofs.Leading.{Leads, Moves, Reads, go, hop, moves, reads_at}
+use Rattle.dts_parse.proofs.Leading.{Leads, Reads, go, hop}
 
 pub if_true : {A : Type 0} (b : Bool) (x y : A) → b ≡ true → (if b then x else y) ≡ x
 if_true true x y e = refl

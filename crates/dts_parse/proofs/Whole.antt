@@ -1,23 +1,20 @@
 -- A walk over all tokens gives the script, or shows that there is none.
-use Rattle.std.proofs.Common.{◌≡◌, ◌<◌, ◌≤◌, ℕ, zero, suc, ◌+◌, Bool, true, false, not, ◌&&◌, List, [], ◌∷◌, ◌++◌, Option, Some, None, Result, Ok, Err, refl, sym, ap, subst, ◌∙◌, arith, inl, inr, length, if◌then◌else◌}
-use Rattle.std.specs.Prelude.{◌⊎◌}
+use Rattle.std.proofs.Common.{◌≡◌, ℕ, Bool, true, false, ◌&&◌, List, [], ◌∷◌, Option, None, Result, Ok, Err, refl, sym, ap, subst, ◌∙◌, length}
 use Rattle.std.proofs.lemmas.Bool.{and_parts}
-use Rattle.dts_lex.specs.Left.{Left, whole}
+use Rattle.dts_lex.specs.Left.{Left}
 use Rattle.dts_lex.specs.Tokens.{next_of}
 use Rattle.dts_lex.specs.declared.lexer.LexFault.{LexFault}
 use Rattle.dts_lex.specs.declared.lexer.Span.{Span}
-use Rattle.dts_parse.specs.Fronts.{Front, In_body, At_name, At_brace, At_directive, At_end, At_site, At_colon, At_bits, At_angle, Before_operand, After_operand, Site, In_value, After_part, In_list, In_hex, fits_lead, spell_front}
-use Rattle.dts_parse.specs.Machine.{Fault, Shape, Step, is_bare, is_body, is_whole, place_now, step, step_on, walk}
-use Rattle.dts_parse.specs.Source.{AreTokens, BreaksNone, HasOneScript, IsBroken, IsFirst, IsScript, IsWhole, NoneTakes, token_of}
+use Rattle.dts_parse.specs.Fronts.{Front, In_body, At_name, At_brace, At_directive, At_end, At_site, At_colon, At_bits, At_angle, Before_operand, After_operand, In_value, After_part, In_list, In_hex, fits_lead, spell_front}
+use Rattle.dts_parse.specs.Machine.{Fault, Shape, Step, is_bare, is_whole, step, step_on, walk}
+use Rattle.dts_parse.specs.Source.{AreTokens, BreaksNone, HasOneScript, IsScript, NoneTakes}
 use Rattle.dts_parse.specs.Statements.{AreFit, Lead, No_lead, Label_lead, Mark_lead, Pieces, is_empty, labels_of, marks_of, place, script, spell_pieces, takes_top}
 use Rattle.dts_parse.specs.StmtData.{StmtData}
 use Rattle.dts_parse.specs.Token.{Token}
-use Rattle.dts_parse.specs.declared.mode.Breach.{Breach}
 use Rattle.dts_parse.specs.declared.mode.Breach.TheVariants.{S1}
-use Rattle.dts_parse.proofs.First.{Inside, There, Beyond, NoNext, Next, Stop, Where, beyond_next, first_token, next_is, others_none, position, there_left}
+use Rattle.dts_parse.proofs.First.{Inside, There, Beyond, NoNext, Next, Stop, beyond_next, first_token, next_is, others_none, position}
 use Rattle.dts_parse.proofs.FrontReads.{empty_more, leading, reads_pieces}
 use Rattle.dts_parse.proofs.Kept.{kept, resting}
-use Rattle.dts_parse.proofs.Leading.{Leads, Reads}
 use Rattle.dts_parse.proofs.Order.{some_not_none}
 use Rattle.dts_parse.proofs.Sound.{no_and, no_and_right, not_both}
 use Rattle.dts_parse.proofs.Steps.{Reached, halt, leads_ok, not_ok, reach}

@@ -1,5 +1,5 @@
 -- The data of what a statement does.
-use Rattle.std.specs.Prelude.{ℕ, List, map}
+use Rattle.std.specs.Prelude.{map}
 use Rattle.dts_parse.specs.StmtData.{ActData, PartData, Plain, Cells, Path, Open, Close, Label, Assign, DelProp, DelNode, Omit}
 use Rattle.dts_parse.specs.declared.script.Act.{Act}
 use Rattle.dts_parse.specs.declared.script.Act.TheVariants as act

@@ -1,11 +1,9 @@
 -- Expressions: their trees, what they spell, and what they are worth. What is spelled stands behind the tokens before it, the last token first.
-use Rattle.std.specs.Prelude.{◌≡◌, ◌≤◌, ◌<◌, ℕ, zero, suc, Bool, true, false, List, [], ◌∷◌, Option, Some, None, nat_le, option_map, if◌then◌else◌}
+use Rattle.std.specs.Prelude.{◌≤◌, ◌<◌, ℕ, zero, suc, Bool, true, false, List, ◌∷◌, Option, Some, None, nat_le, option_map, if◌then◌else◌}
 use Rattle.dts_parse.specs.Token.{Token, Spot, token, un_sign, bin_sign, op_level}
 use Rattle.dts_parse.specs.Worth.{un, bin, cond}
 use Rattle.dts_parse.specs.declared.expr.BinOp.{BinOp}
 use Rattle.dts_parse.specs.declared.expr.UnOp.{UnOp}
-use Rattle.dts_parse.specs.declared.mode.Frame.{Frame}
-use Rattle.dts_parse.specs.declared.mode.Frame.TheVariants as frame
 use Rattle.dts_parse.specs.declared.sign.Sign.{Sign}
 use Rattle.dts_parse.specs.declared.sign.Sign.TheVariants as sign
 

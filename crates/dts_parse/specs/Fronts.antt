@@ -1,5 +1,5 @@
 -- Fronts: what is read of a source that may go on. Each is an open case of the grammar with the parts that are read.
-use Rattle.std.specs.Prelude.{◌≡◌, ◌≤◌, ℕ, zero, suc, Bool, true, false, ◌&&◌, ◌||◌, List, [], ◌∷◌, Option, Some, None, length}
+use Rattle.std.specs.Prelude.{◌≡◌, ◌≤◌, ℕ, suc, Bool, true, false, ◌&&◌, ◌||◌, List, ◌∷◌, Some}
 use Rattle.dts_parse.specs.Exprs.{Tree, Waiting, IsProper, AreProper, level, room, rounds, count, count_waiting, spell, spell_waiting}
 use Rattle.dts_parse.specs.Statements.{AreFit, Lead, No_lead, Label_lead, Mark_lead, Numeral, Pieces, Place, Short, is_empty, marks_of, numeral_sign, place, place_behind, spell_lead, spell_pieces, spell_short, takes_inner, takes_short, takes_top}
 use Rattle.dts_parse.specs.Texts.{width_of}

@@ -1,13 +1,12 @@
 -- How a source is read, one token at a time: what is kept of the tokens so far, and what one more makes of it.
-use Rattle.std.specs.Prelude.{◌≡◌, ℕ, zero, suc, Bool, true, false, not, ◌&&◌, ◌||◌, List, [], ◌∷◌, ◌++◌, Option, Some, None, Result, Ok, Err, nat_le, option_map, if◌then◌else◌}
-use Rattle.edt_base.specs.declared.node.Part.{Part}
+use Rattle.std.specs.Prelude.{ℕ, suc, Bool, true, false, not, ◌&&◌, List, [], ◌∷◌, ◌++◌, Option, Some, None, Result, Ok, Err, nat_le, option_map, if◌then◌else◌}
 use Rattle.edt_base.specs.declared.node.Kind.TheVariants as kind
 use Rattle.dts_parse.specs.Exprs.{more}
 use Rattle.dts_parse.specs.Fronts.{is_opening, may_name}
 use Rattle.dts_parse.specs.Statements.{Place, below, first_stage, head, is_empty, omits, tail, takes_inner, takes_top, takes_version}
 use Rattle.dts_parse.specs.StmtData.{PartData, StmtData, Plain, Path, Open, Close, Label, Assign, DelProp, DelNode, Omit, stmt}
-use Rattle.dts_parse.specs.Texts.{char_worth, target_of, text_bytes, width_of}
-use Rattle.dts_parse.specs.Token.{Spot, Token, bin_of, is_label_form, is_node_form, is_prop_form, op_level, un_of}
+use Rattle.dts_parse.specs.Texts.{target_of, text_bytes, width_of}
+use Rattle.dts_parse.specs.Token.{Spot, Token, bin_of, is_node_form, is_prop_form, op_level, un_of}
 use Rattle.dts_parse.specs.Values.{bytes_with, cells_with, list_data, may_close, misfits}
 use Rattle.dts_parse.specs.Worth.{bin, cond, un}
 use Rattle.dts_parse.specs.declared.expr.BinOp.{BinOp}
@@ -31,7 +30,7 @@ use Rattle.dts_parse.specs.declared.sign.Form.TheVariants as form
 use Rattle.dts_parse.specs.declared.sign.Sign.{Sign}
 use Rattle.dts_parse.specs.declared.sign.Sign.TheVariants as sign
 use Rattle.dts_parse.specs.declared.sign.Width.{Width}
-use Rattle.dts_parse.specs.declared.sign.Width.TheVariants.{W8, W16, W32, W64}
+use Rattle.dts_parse.specs.declared.sign.Width.TheVariants.{Bits32}
 
 pub record Shape : Type 0 where
   pub mode : Mode
@@ -203,7 +202,7 @@ with_part s part = Ok (record s { mode = mode.Part; parts = s.parts ++ part ∷ 
 abbrev pub in_value : Shape → Spot → Sign → Step
 in_value s p sign.Str = with_part s (Plain (record { kind = kind.Str; bytes = text_bytes p.text }))
 in_value s p sign.Ref = with_part s (Path (target_of p.text))
-in_value s p sign.Less = Ok (record s { mode = mode.Cells W32 listing.Empty; depth = suc s.depth })
+in_value s p sign.Less = Ok (record s { mode = mode.Cells Bits32 listing.Empty; depth = suc s.depth })
 in_value s p sign.LeftSquare = Ok (record s { mode = mode.Pairs listing.Empty; depth = suc s.depth })
 in_value s p sign.Bits = Ok (record s { mode = mode.Bits })
 in_value s p (sign.Name f) = waits_colon f s p
@@ -240,7 +239,7 @@ put w huge n at s =
     else Ok (record s { mode = mode.Cells w listing.Elements; cells = cells_with w n s.cells; bytes = bytes_with w n s.bytes })
 
 abbrev pub at_ref : Width → Shape → Spot → Step
-at_ref W32 s p = Ok (record s { mode = mode.Cells W32 listing.Elements; cells = s.cells ++ cell.Ref (target_of p.text) ∷ [] })
+at_ref Bits32 s p = Ok (record s { mode = mode.Cells Bits32 listing.Elements; cells = s.cells ++ cell.Ref (target_of p.text) ∷ [] })
 at_ref _ s p = refused p
 
 abbrev pub closed_list : Width → Listing → Shape → Spot → Step

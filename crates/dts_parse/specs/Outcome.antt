@@ -1,5 +1,5 @@
 -- What reading a source ends with.
-use Rattle.std.specs.Prelude.{◌≡◌, ℕ, Bool, List, Result, Ok, Err}
+use Rattle.std.specs.Prelude.{◌≡◌, ℕ, Bool, List, Ok}
 use Rattle.dts_parse.specs.Machine.{Shape, walk}
 use Rattle.dts_parse.specs.Source.{AreTokens, BreaksNone, IsFirst, IsScript}
 use Rattle.dts_parse.specs.StmtData.{StmtData}

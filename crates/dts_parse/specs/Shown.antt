@@ -1,9 +1,8 @@
 -- What a parser keeps, as the shape that its specification speaks of, and what a call leaves.
-use Rattle.std.specs.Prelude.{◌≡◌, ℕ, List, Option, Result, Ok, Err, map}
+use Rattle.std.specs.Prelude.{◌≡◌, Result, Ok, Err, map}
 use Rattle.std.specs.Prelude.{reverse}
 use Rattle.dts_parse.specs.ActForm.{part_data}
-use Rattle.dts_parse.specs.Machine.{Fault, Shape, Step}
-use Rattle.dts_parse.specs.Token.{Spot}
+use Rattle.dts_parse.specs.Machine.{Shape, Step}
 use Rattle.dts_parse.specs.declared.parser.Parser.{Parser}
 use Rattle.dts_parse.specs.declared.stop.Stop.{Stop}
 use Rattle.dts_parse.specs.declared.stop.Stop.TheVariants as stops

@@ -1,7 +1,7 @@
 -- What the sign of a token says of its text.
-use Rattle.std.specs.Prelude.{◌≡◌, ℕ, true, List, Some}
+use Rattle.std.specs.Prelude.{◌≡◌, ℕ, true, List}
 use Rattle.std.specs.List.{list_all}
-use Rattle.dts_parse.specs.Token.{form_of, is_ascii}
+use Rattle.dts_parse.specs.Token.{is_ascii}
 use Rattle.dts_parse.specs.declared.sign.Sign.{Sign}
 use Rattle.dts_parse.specs.declared.sign.Sign.TheVariants as sign
 

@@ -1,5 +1,5 @@
 -- A source and its script, or the rules that it breaks, each where it does.
-use Rattle.std.specs.Prelude.{◌≡◌, ◌≢◌, ◌<◌, ◌≤◌, ℕ, ◌+◌, Bool, true, false, List, [], ◌∷◌, ◌++◌, Option, Some, None, Result, Ok, Err, length, slice_range, nat_eq, if◌then◌else◌, codes}
+use Rattle.std.specs.Prelude.{◌≡◌, ◌≢◌, ◌<◌, ◌≤◌, ℕ, Bool, true, List, [], ◌∷◌, Option, Some, None, Result, Ok, Err, length, slice_range, nat_eq, if◌then◌else◌, codes}
 use Rattle.std.specs.Prelude.{◌⊎◌}
 use Rattle.std.specs.List.{list_all}
 use Rattle.std.specs.Str.{bytes_eq}
@@ -20,7 +20,7 @@ use Rattle.dts_parse.specs.Numbers.{number}
 use Rattle.dts_parse.specs.Statements.{AreFit, Pieces, place, script, spell_pieces, takes_top}
 use Rattle.dts_parse.specs.StmtData.{StmtData}
 use Rattle.dts_parse.specs.Texts.{char_worth, pair_worth}
-use Rattle.dts_parse.specs.Token.{Spot, Token, form_of, is_ascii, token}
+use Rattle.dts_parse.specs.Token.{Token, form_of, is_ascii, token}
 use Rattle.dts_parse.specs.Values.{Element, element_place, is_misfit, spell_element}
 use Rattle.dts_parse.specs.declared.expr.BinOp.TheVariants as op
 use Rattle.dts_parse.specs.declared.mode.Breach.{Breach}

@@ -1,12 +1,11 @@
 -- Statements of a source: what is read of it, piece by piece, what that spells and which statements it is.
-use Rattle.std.specs.Prelude.{◌≡◌, ℕ, zero, suc, Bool, true, false, not, ◌&&◌, List, [], ◌∷◌, ◌++◌, Option, Some, None, length, map, option_map}
-use Rattle.dts_parse.specs.StmtData.{ActData, StmtData, Open, Close, Label, Assign, DelProp, DelNode, Omit, stmt}
+use Rattle.std.specs.Prelude.{◌≡◌, ℕ, zero, suc, Bool, true, false, not, ◌&&◌, List, [], ◌∷◌, ◌++◌}
+use Rattle.dts_parse.specs.StmtData.{StmtData, Open, Close, Label, Assign, DelProp, DelNode, Omit, stmt}
 use Rattle.dts_parse.specs.Texts.{target_of}
 use Rattle.dts_parse.specs.Token.{Name, Spot, Token, is_node_form, is_prop_form, name_token, token}
 use Rattle.dts_parse.specs.Values.{Before, Labels, Written, part_of, parts_of, spell_before, spell_labels, spell_written}
 use Rattle.dts_parse.specs.declared.mode.Stage.{Stage}
 use Rattle.dts_parse.specs.declared.mode.Stage.TheVariants as stage
-use Rattle.dts_parse.specs.declared.script.Target.{Target}
 use Rattle.dts_parse.specs.declared.script.Target.TheVariants as target
 use Rattle.dts_parse.specs.declared.sign.Form.{Form}
 use Rattle.dts_parse.specs.declared.sign.Form.TheVariants as form

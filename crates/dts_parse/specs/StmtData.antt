@@ -1,5 +1,5 @@
 -- Statements as contracts see them.
-use Rattle.std.specs.Prelude.{ℕ, List, [], ◌∷◌}
+use Rattle.std.specs.Prelude.{ℕ, List}
 use Rattle.edt_base.specs.declared.node.Part.{Part}
 use Rattle.dts_parse.specs.declared.script.Target.{Target}
 use Rattle.dts_parse.specs.declared.script.RawCell.{RawCell}

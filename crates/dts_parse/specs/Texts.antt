@@ -6,7 +6,7 @@ use Rattle.dts_lex.specs.Tokens.{escape}
 use Rattle.dts_parse.specs.declared.script.Target.{Target}
 use Rattle.dts_parse.specs.declared.script.Target.TheVariants as target
 use Rattle.dts_parse.specs.declared.sign.Width.{Width}
-use Rattle.dts_parse.specs.declared.sign.Width.TheVariants.{W8, W16, W32, W64}
+use Rattle.dts_parse.specs.declared.sign.Width.TheVariants.{Bits8, Bits16, Bits32, Bits64}
 
 -- ---- digits
 
@@ -87,17 +87,17 @@ target_of (a ∷ rest) = if begins_path rest then target.ByPath (within 1 rest) 
 
 -- below 2 ^ b, or at least 2 ^ 64 - 2 ^ (b - 1)
 abbrev pub fits : Width → ℕ → Bool
-fits W8 n = nat_lt n (2 ^ 8) || nat_le (2 ^ 64 - 2 ^ 7) n
-fits W16 n = nat_lt n (2 ^ 16) || nat_le (2 ^ 64 - 2 ^ 15) n
-fits W32 n = nat_lt n (2 ^ 32) || nat_le (2 ^ 64 - 2 ^ 31) n
-fits W64 n = true
+fits Bits8 n = nat_lt n (2 ^ 8) || nat_le (2 ^ 64 - 2 ^ 7) n
+fits Bits16 n = nat_lt n (2 ^ 16) || nat_le (2 ^ 64 - 2 ^ 15) n
+fits Bits32 n = nat_lt n (2 ^ 32) || nat_le (2 ^ 64 - 2 ^ 31) n
+fits Bits64 n = true
 
 abbrev pub element_bytes : Width → ℕ → List ℕ
-element_bytes W8 n = n % 2 ^ 8 ∷ []
-element_bytes W16 n = to_be_bytes w16 (n % 2 ^ 16)
-element_bytes W32 n = []
-element_bytes W64 n = to_be_bytes w64 n
+element_bytes Bits8 n = n % 2 ^ 8 ∷ []
+element_bytes Bits16 n = to_be_bytes w16 (n % 2 ^ 16)
+element_bytes Bits32 n = []
+element_bytes Bits64 n = to_be_bytes w64 n
 
 -- the number behind `/bits/`
 abbrev pub width_of : ℕ → Option Width
-width_of n = if nat_eq n 8 then Some W8 else if nat_eq n 16 then Some W16 else if nat_eq n 32 then Some W32 else if nat_eq n 64 then Some W64 else None
+width_of n = if nat_eq n 8 then Some Bits8 else if nat_eq n 16 then Some Bits16 else if nat_eq n 32 then Some Bits32 else if nat_eq n 64 then Some Bits64 else None

@@ -1,6 +1,5 @@
 -- Values of properties: their trees, what they spell and what they stand for.
-use Rattle.std.specs.Prelude.{◌≡◌, ℕ, zero, suc, ◌%◌, ◌^◌, Bool, true, false, not, ◌||◌, List, [], ◌∷◌, ◌++◌, Option, Some, None, unwrap_or}
-use Rattle.edt_base.specs.declared.node.Part.{Part}
+use Rattle.std.specs.Prelude.{◌≡◌, ℕ, ◌%◌, ◌^◌, Bool, true, false, not, ◌||◌, List, [], ◌∷◌, ◌++◌, Option, Some, None, unwrap_or}
 use Rattle.edt_base.specs.declared.node.Kind.TheVariants as kind
 use Rattle.dts_parse.specs.Exprs.{Literal, Tree, literal_sign, literal_worth, or_large, large, worth_of, IsProper, spell}
 use Rattle.dts_parse.specs.StmtData.{PartData, Plain, Cells, Path}
@@ -13,7 +12,7 @@ use Rattle.dts_parse.specs.declared.script.RawCell.TheVariants as cell
 use Rattle.dts_parse.specs.declared.sign.Form.TheVariants as form
 use Rattle.dts_parse.specs.declared.sign.Sign.TheVariants as sign
 use Rattle.dts_parse.specs.declared.sign.Width.{Width}
-use Rattle.dts_parse.specs.declared.sign.Width.TheVariants.{W8, W16, W32, W64}
+use Rattle.dts_parse.specs.declared.sign.Width.TheVariants.{Bits8, Bits32}
 
 -- ---- labels: each a name and a colon
 
@@ -30,7 +29,7 @@ spell_labels (Label_ ls n colon) before = token sign.Colon colon ∷ name_token 
 pub data Element (w : Width) : Type 0 where
   Lone : Literal → Spot → Element w
   Group : (begin : Spot) → (e : Tree) → IsProper e → (finish : Spot) → Element w
-  Refer : w ≡ W32 → Spot → Element w
+  Refer : w ≡ Bits32 → Spot → Element w
 
 abbrev pub spell_element : {w : Width} → Element w → List Token → List Token
 spell_element (Lone l p) before = token (literal_sign l) p ∷ before
@@ -63,7 +62,7 @@ element_place (Group begin e proper finish) = begin.at
 element_place (Refer is p) = p.at
 
 abbrev pub cells_with : Width → Option ℕ → List RawCell → List RawCell
-cells_with W32 n cells = cells ++ cell.Num (unwrap_or n 0 % 2 ^ 32) ∷ []
+cells_with Bits32 n cells = cells ++ cell.Num (unwrap_or n 0 % 2 ^ 32) ∷ []
 cells_with _ n cells = cells
 
 abbrev pub bytes_with : Width → Option ℕ → List ℕ → List ℕ
@@ -116,7 +115,7 @@ pair_listing (And_pair ps before byte p) ls = listing.Elements
 
 -- the beginning of a list: `<`, or `/bits/`, a width and `<`
 pub data Head (w : Width) : Type 0 where
-  Angle_ : w ≡ W32 → (begin : Spot) → Head w
+  Angle_ : w ≡ Bits32 → (begin : Spot) → Head w
   Bits_ : (directive : Spot) → (n : ℕ) → width_of n ≡ Some w → (number begin : Spot) → Head w
 
 abbrev pub spell_head : {w : Width} → Head w → List Token → List Token
@@ -137,8 +136,8 @@ spell_written (Hex_ begin ps ls ends finish) before = token sign.RightSquare fin
 
 -- a list of 8 bits is bytes, one of 32 cells, the others are wide
 abbrev pub list_data : Width → List RawCell → List ℕ → PartData
-list_data W8 cells bytes = Plain (record { kind = kind.Hex; bytes = bytes })
-list_data W32 cells bytes = Cells cells
+list_data Bits8 cells bytes = Plain (record { kind = kind.Hex; bytes = bytes })
+list_data Bits32 cells bytes = Cells cells
 list_data _ cells bytes = Plain (record { kind = kind.Wide; bytes = bytes })
 
 abbrev pub part_of : Written → PartData

@@ -4,6 +4,8 @@ ghost use Rattle.std.specs.Prelude.{◌≡◌, Option, Some, None, option_map, O
 ghost use Rattle.std.specs.Option.{option_and_then};
 ghost use Rattle.dts_parse.specs.Worth.{bin, cond, decided, is_true, shl, shr, strict, truth, un, with_left, worth};
 
+use thiserror::Error;
+
 /// An operator with one operand.
 #[derive(Clone, Copy, Debug, PartialEq, Eq)]
 pub enum UnOp {
@@ -70,7 +72,8 @@ pub enum Expr {
 }
 
 /// An expression has no value, since an evaluated divisor is 0.
-#[derive(Clone, Copy, Debug, PartialEq, Eq)]
+#[derive(Clone, Copy, Debug, PartialEq, Eq, Error)]
+#[error("a divisor is 0")]
 pub struct ExprFault;
 
 /// What an expression is worth by C's rules, in 64 bits without a sign: arithmetic wraps, a shift by

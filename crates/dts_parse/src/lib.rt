@@ -11,6 +11,8 @@ mod mode;
 mod names;
 mod numbers;
 mod parser;
+#[cfg(test)]
+mod plain;
 mod script;
 mod sign;
 mod source;

@@ -19,13 +19,13 @@ pub(crate) enum Form {
 #[derive(Clone, Copy)]
 pub(crate) enum Width {
     /// 8 bits.
-    W8,
+    Bits8,
     /// 16 bits.
-    W16,
+    Bits16,
     /// 32 bits: cells.
-    W32,
+    Bits32,
     /// 64 bits.
-    W64,
+    Bits64,
 }
 
 /// A token's meaning.

@@ -1,6 +1,8 @@
 //! Rows of sources with their statements, or their first fault.
 
-use crate::{Act, BinOp, Expr, RawCell, RawPart, Script, Target, UnOp, eval, parse};
+use crate::plain::read_plainly;
+use crate::stop::Stop;
+use crate::{Act, BinOp, Expr, RawCell, RawPart, Script, Stmt, Target, UnOp, eval, parse};
 use edt_base::{End, Kind, Place, Text};
 use std::alloc::{AllocError, Global};
 use std::test::Fail;
@@ -140,6 +142,35 @@ const ROWS: &[Row] = &[
         "O@10 Oa@17 Lk@14 C@21 Pp@24 Da@45 Ob@99 Lm@79 C@103 Xb@62 Xb@82 C@106",
         true,
     ),
+    (b"/dts-v1/; / {\n#line = <1>;\n};", "O@10 C@27", true),
+    (
+        b"/dts-v1/; / { p = \"\\400\\8\\X41\\xg\\\"\"; };",
+        "O@10 Ap=\"20303858343178672200\"@14 C@37",
+        true,
+    ),
+    (b"/dts-v1/; l: /memreserve/ 1 2;", "!S1@13", true),
+    (b"/dts-v1/; l: /plugin/;", "!S1@13", true),
+    (b"/dts-v1/; / { l: ; };", "!S1@17", true),
+    (b"/dts-v1/; / { p = <(/include/ 2)>; };", "!S1@20", true),
+    (
+        b"/dts-v1/; / { p = /bits/ 0x20 <&l>; };",
+        "O@10 Ap=<&l>@14 C@36",
+        true,
+    ),
+    (
+        b"/dts-v1/; / { p = /bits/ 0x10000000000000000 <1>; };",
+        "!S1@25",
+        true,
+    ),
+    (b"/dts-v1/; / { p = [0 a]; };", "!S1@19", true),
+    (b"/dts-v1/; / { p = <0x>; };", "!S1@19", true),
+    (b"/dts-v1/; / { p = <1LU>; };", "!S1@19", true),
+    (
+        b"/dts-v1/; / { p = <(1 ? 2) (5000000000)>; };",
+        "!S1@25",
+        true,
+    ),
+    (b"/dts-v1/; / { p = <(5000000000 + ) 1>; };", "!S1@33", true),
 ];
 
 fn show_target(out: &mut String, target: &Target) -> Result<(), Fail> {
@@ -228,19 +259,23 @@ fn show_act(out: &mut String, act: &Act) -> Result<(), Fail> {
 }
 
 /// The statements in short: O a node's opening, C its close, L a label, A a property with its value,
-/// P and D deletions, X a mark, each with its byte; or the fault.
+/// P and D deletions, X a mark, each with its byte.
+fn show_stmts(out: &mut String, stmts: &[Stmt]) -> Result<(), Fail> {
+    for (at, stmt) in stmts.iter().enumerate() {
+        if at > 0 {
+            write!(out, " ")?;
+        }
+        show_act(out, &stmt.act)?;
+        write!(out, "@{}", stmt.at)?;
+    }
+    Ok(())
+}
+
+/// The statements, or the fault.
 fn shown(alloc: Global, answer: Result<Script, End>) -> Result<String, Fail> {
     let mut out = String::new(alloc);
     match answer {
-        Ok(script) => {
-            for (at, stmt) in script.stmts.iter().enumerate() {
-                if at > 0 {
-                    write!(out, " ")?;
-                }
-                show_act(&mut out, &stmt.act)?;
-                write!(out, "@{}", stmt.at)?;
-            }
-        }
+        Ok(script) => show_stmts(&mut out, script.stmts.as_slice())?,
         Err(End::Fault(fault)) => {
             write!(out, "!{}", fault.rule)?;
             if let Place::Byte(_, at) = &fault.place {
@@ -248,6 +283,17 @@ fn shown(alloc: Global, answer: Result<Script, End>) -> Result<String, Fail> {
             }
         }
         Err(End::Memory(_)) => write!(out, "!memory")?,
+    }
+    Ok(out)
+}
+
+/// What the plain reading gives, shown in the same way.
+fn shown_plainly(alloc: Global, source: &[u8], base: bool) -> Result<String, Fail> {
+    let mut out = String::new(alloc);
+    match read_plainly(alloc, source, base) {
+        Ok(stmts) => show_stmts(&mut out, stmts.as_slice())?,
+        Err(Stop::Broken(breach, at)) => write!(out, "!{breach:?}@{at}")?,
+        Err(Stop::Memory(_)) => write!(out, "!memory")?,
     }
     Ok(out)
 }
@@ -267,6 +313,16 @@ fn sources_have_their_statements(rt: HostRuntime) -> Result<(), Fail> {
     Ok(())
 }
 
+/// Whether `parse` gives what the plain reading gives of a front of a source and an end.
+fn reads_plainly(alloc: Global, front: &[u8], end: &str, base: bool) -> Result<bool, Fail> {
+    let mut source = Vec::new(alloc);
+    source.extend_from_slice(front)?;
+    source.extend_from_slice(end.as_bytes())?;
+    let found = read(alloc, source.as_slice(), base)?;
+    let plain = shown_plainly(alloc, source.as_slice(), base)?;
+    Ok(found.as_str() == plain.as_str())
+}
+
 #[test]
 fn prefixes_of_the_board_are_refused(rt: HostRuntime) -> Result<(), Fail> {
     let alloc = rt.alloc();
@@ -277,6 +333,62 @@ fn prefixes_of_the_board_are_refused(rt: HostRuntime) -> Result<(), Fail> {
         let all = read(alloc, cut, true)?;
         let good = end == 9 || end == 10 || end > last;
         assert!(rt; all.as_str().starts_with("!S1@") != good);
+        assert!(rt; reads_plainly(alloc, cut, "", true)?, "{end}");
+    }
+    Ok(())
+}
+
+/// What may stand behind a front of a source, fit or not.
+const ENDS: &[&str] = &[
+    "",
+    ";",
+    ":",
+    "{",
+    "}",
+    "<",
+    ">",
+    "[",
+    "]",
+    "(",
+    ")",
+    "=",
+    ",",
+    "/",
+    "-",
+    "?",
+    "+",
+    "&l",
+    "&{/a}",
+    "a",
+    " l:",
+    "7",
+    "ab",
+    "a@1",
+    "p?",
+    "'c'",
+    "\"t\"",
+    "0x10000000000000000",
+    "/bits/",
+    "/include/",
+    "/dts-v1/",
+    "/plugin/",
+    "/memreserve/",
+    "/delete-node/",
+    "/delete-property/",
+    "/omit-if-no-ref/",
+    "$",
+];
+
+#[test]
+fn fronts_of_the_rows_read_as_the_grammar_says(rt: HostRuntime) -> Result<(), Fail> {
+    let alloc = rt.alloc();
+    for (source, _, base) in ROWS {
+        for (size, _) in source.iter().enumerate() {
+            let (front, _) = source.split_at(size);
+            for end in ENDS {
+                assert!(rt; reads_plainly(alloc, front, end, *base)?, "{size} {end}");
+            }
+        }
     }
     Ok(())
 }
@@ -335,6 +447,55 @@ fn limits_stand_where_they_do(rt: HostRuntime) -> Result<(), Fail> {
         true,
     )?;
     assert_eq!(rt; rounds.as_str(), "!S2@81");
+    Ok(())
+}
+
+/// A front of a source with so many times a text in it.
+fn front(
+    alloc: Global,
+    begin: &str,
+    piece: &str,
+    count: usize,
+    inner: &str,
+) -> Result<String, AllocError> {
+    let mut out = String::from_str(alloc, "/dts-v1/; / {")?;
+    out.push_str(begin)?;
+    for _ in 0..count {
+        out.push_str(piece)?;
+    }
+    out.push_str(inner)?;
+    Ok(out)
+}
+
+/// What stands in the innermost of nodes that nest, or behind the signs of an expression.
+const INNER: &[(&str, &str, usize, &str)] = &[
+    ("", "a{", 61, "p=<("),
+    ("", "a{", 62, ""),
+    ("", "a{", 62, "p=<"),
+    ("", "a{", 62, "p=["),
+    ("", "a{", 63, ""),
+    ("", "a{", 63, "p="),
+    ("", "a{", 63, "a"),
+    ("p=<(", "-", 4094, ""),
+    ("p=<(", "-", 4094, "1"),
+    ("p=<(", "-", 4095, ""),
+    ("p=<(", "-", 4095, "1"),
+    ("p=<(", "1+", 2047, "5000000000"),
+    ("p=<(1 ? 2 :", "-", 4091, "1"),
+];
+
+#[test]
+fn fronts_at_the_limits_read_as_the_grammar_says(rt: HostRuntime) -> Result<(), Fail> {
+    let alloc = rt.alloc();
+    for (begin, piece, count, inner) in INNER {
+        let front = front(alloc, begin, piece, *count, inner)?;
+        for end in ENDS {
+            assert!(rt;
+                reads_plainly(alloc, front.as_str().as_bytes(), end, true)?,
+                "{begin} {count} {inner} {end}"
+            );
+        }
+    }
     Ok(())
 }
 

@@ -50,7 +50,7 @@ impl<'a> Token<'a> {
     }
 }
 
-fn sign_of(kind: SpanKind, text: &[u8]) -> Sign
+pub(crate) fn sign_of(kind: SpanKind, text: &[u8]) -> Sign
     ensures { result ≡ sign_of kind text.now }
 {
     match kind {

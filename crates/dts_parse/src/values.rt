@@ -30,10 +30,10 @@ fn fits(width: Width, n: u64) -> bool
     ensures { result ≡ fits width n }
 {
     match width {
-        Width::W8 => n < 0x100 || n >= 0xffff_ffff_ffff_ff80,
-        Width::W16 => n < 0x1_0000 || n >= 0xffff_ffff_ffff_8000,
-        Width::W32 => n < 0x1_0000_0000 || n >= 0xffff_ffff_8000_0000,
-        Width::W64 => true,
+        Width::Bits8 => n < 0x100 || n >= 0xffff_ffff_ffff_ff80,
+        Width::Bits16 => n < 0x1_0000 || n >= 0xffff_ffff_ffff_8000,
+        Width::Bits32 => n < 0x1_0000_0000 || n >= 0xffff_ffff_8000_0000,
+        Width::Bits64 => true,
     }
 }
 
@@ -51,10 +51,10 @@ fn width_of(n: u64) -> Option<Width>
     ensures { result ≡ width_of n }
 {
     match n {
-        8 => Some(Width::W8),
-        16 => Some(Width::W16),
-        32 => Some(Width::W32),
-        64 => Some(Width::W64),
+        8 => Some(Width::Bits8),
+        16 => Some(Width::Bits16),
+        32 => Some(Width::Bits32),
+        64 => Some(Width::Bits64),
         _ => None,
     }
 }
@@ -93,12 +93,12 @@ fn list_part(width: Width, cells: Vec<RawCell>, bytes: Vec<u8>) -> RawPart
     ensures { part_data result ≡ list_data width cells.items bytes.items }
 {
     match width {
-        Width::W8 => RawPart::Plain(Part {
+        Width::Bits8 => RawPart::Plain(Part {
             kind: Kind::Hex,
             bytes: Bytes::new(bytes),
         }),
-        Width::W32 => RawPart::Cells(cells),
-        Width::W16 | Width::W64 => RawPart::Plain(Part {
+        Width::Bits32 => RawPart::Cells(cells),
+        Width::Bits16 | Width::Bits64 => RawPart::Plain(Part {
             kind: Kind::Wide,
             bytes: Bytes::new(bytes),
         }),
@@ -110,13 +110,13 @@ fn push_bytes(bytes: &mut Vec<u8>, width: Width, n: u64) -> Result<(), AllocErro
     ensures { OnOk result (bytes.new.items ≡ bytes.old.items ++ element_bytes width n) }
 {
     match width {
-        Width::W8 => {
+        Width::Bits8 => {
             bytes.push((n % 0x100) as u8)?;
             Ok(())
         }
-        Width::W16 => bytes.extend_from_slice(&((n % 0x1_0000) as u16).to_be_bytes()),
-        Width::W32 => Ok(()),
-        Width::W64 => bytes.extend_from_slice(&n.to_be_bytes()),
+        Width::Bits16 => bytes.extend_from_slice(&((n % 0x1_0000) as u16).to_be_bytes()),
+        Width::Bits32 => Ok(()),
+        Width::Bits64 => bytes.extend_from_slice(&n.to_be_bytes()),
     }
 }
 
@@ -125,7 +125,7 @@ fn push_cell(cells: &mut Vec<RawCell>, width: Width, n: u64) -> Result<(), Alloc
     ensures { OnOk result (cells.new.items ≡ cells_with width (Some n) cells.old.items) }
 {
     match width {
-        Width::W32 => {
+        Width::Bits32 => {
             cells.push(RawCell::Num((n % 0x1_0000_0000) as u32))?;
             Ok(())
         }
@@ -142,7 +142,7 @@ impl<'a> Parser<'a> {
         match token.sign {
             Sign::Str => self.at_text(alloc, token),
             Sign::Ref => self.at_path(alloc, token),
-            Sign::Less => self.at_list(Width::W32),
+            Sign::Less => self.at_list(Width::Bits32),
             Sign::LeftSquare => self.at_pairs(),
             Sign::Bits => {
                 self.mode = Mode::Bits;
@@ -318,9 +318,9 @@ impl<'a> Parser<'a> {
         ensures { Leaves (shown self.new) result (at_ref width (shown self.old) token.now.spot) }
     {
         match width {
-            Width::W32 => {
+            Width::Bits32 => {
                 let target = target_of(alloc, token)?;
-                self.mode = Mode::Cells(Width::W32, Listing::Elements);
+                self.mode = Mode::Cells(Width::Bits32, Listing::Elements);
                 self.cells.push(RawCell::Ref(target))?;
                 Ok(())
             }

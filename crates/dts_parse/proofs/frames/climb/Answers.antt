@@ -1,6 +1,5 @@
-use Rattle.std.proofs.Common.{◌≡◌, ◌∙◌, sym, ap, length, ◌-◌, take, Option, Some, List, ℕ, vec_len}
+use Rattle.std.proofs.Common.{◌≡◌, ◌∙◌, sym, ap, length, ◌-◌, take, Some, List, ℕ, vec_len}
 use Rattle.std.specs.List.{slice_get}
-use Rattle.dts_parse.specs.Machine.{reduced}
 use Rattle.dts_parse.specs.declared.mode.Frame.{Frame}
 use Rattle.dts_parse.proofs.FrameLaws.{climb_pop}
 use Rattle.dts_parse.proofs.frames.climb.Goals as goal

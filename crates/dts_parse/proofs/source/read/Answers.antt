@@ -1,10 +1,6 @@
-use Rattle.std.proofs.Common.{◌≡◌, ◌∙◌, sym, ap, Ok, Err, Some, None, Result, Option}
-use Rattle.dts_lex.specs.Left.{Left}
-use Rattle.dts_lex.specs.Tokens.{next_of}
-use Rattle.dts_lex.specs.declared.lexer.LexFault.{LexFault}
-use Rattle.dts_lex.specs.declared.lexer.Span.{Span}
+use Rattle.std.proofs.Common.{◌∙◌, sym}
 use Rattle.dts_parse.specs.Shown.{shown}
-use Rattle.dts_parse.proofs.ReadLaws.{Lies, answered, first_last, first_lex, lies, stop_is, taken_is}
+use Rattle.dts_parse.proofs.ReadLaws.{answered, first_last, first_lex, lies, stop_is, taken_is}
 use Rattle.dts_parse.proofs.source.read.Goals as goal
 
 pub returns-in-Err-clause-stop : goal.returns-in-Err-clause-stop
