@@ -66,9 +66,9 @@ pub rest_known : (s : SetTable) (left rest : List Pend) (p : Pend) → left ≡ 
 rest_known s left rest p e h = (subst (KnownAll s) e h).1
 
 -- the argument of a number
-pub written_at : (s : SetTable) (gs : List Given) (i : ℕ) (g : Given) → i < length gs → g ≡ slice_index_or gs i g → marks s g.written.items ≡ (slice_index_or (args_data s gs) i no_arg).written
+pub written_at : (s : SetTable) (gs : List Given) (i : ℕ) (g : Given) → i < length gs → g ≡ slice_index_or gs i g → marks s g.written ≡ (slice_index_or (args_data s gs) i no_arg).written
 written_at s [] i g h e = absurd (omega arith)
-written_at s (x ∷ xs) zero g h e = ap (λ y. marks s y.written.items) e
+written_at s (x ∷ xs) zero g h e = ap (λ y. marks s y.written) e
 written_at s (x ∷ xs) (suc i) g h e = written_at s xs i g (omega arith) e
 
 pub full_at : (s : SetTable) (gs : List Given) (i : ℕ) (g : Given) → i < length gs → g ≡ slice_index_or gs i g → marks s g.full.items ≡ (slice_index_or (args_data s gs) i no_arg).full
@@ -76,9 +76,9 @@ full_at s [] i g h e = absurd (omega arith)
 full_at s (x ∷ xs) zero g h e = ap (λ y. marks s y.full.items) e
 full_at s (x ∷ xs) (suc i) g h e = full_at s xs i g (omega arith) e
 
-pub known_at : (s : SetTable) (gs : List Given) (i : ℕ) (g : Given) → i < length gs → g ≡ slice_index_or gs i g → KnownArgs s gs → KnownAll s g.written.items × KnownAll s g.full.items
+pub known_at : (s : SetTable) (gs : List Given) (i : ℕ) (g : Given) → i < length gs → g ≡ slice_index_or gs i g → KnownArgs s gs → KnownAll s g.written × KnownAll s g.full.items
 known_at s [] i g h e k = absurd (omega arith)
-known_at s (x ∷ xs) zero g h e k = let P : Given → Type 0 = λ y. KnownAll s y.written.items × KnownAll s y.full.items in subst P (sym e) (k.0, k.1)
+known_at s (x ∷ xs) zero g h e k = let P : Given → Type 0 = λ y. KnownAll s y.written × KnownAll s y.full.items in subst P (sym e) (k.0, k.1)
 known_at s (x ∷ xs) (suc i) g h e k = known_at s xs i g (omega arith) e k.2
 
 pub past_args : (s : SetTable) (gs : List Given) (i : ℕ) → length gs ≤ i → slice_index_or (args_data s gs) i no_arg ≡ no_arg

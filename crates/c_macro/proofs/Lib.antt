@@ -15,3 +15,6 @@ pub mod MachineLaws
 pub mod PlaceLaws
 pub mod TurnLaws
 pub mod RunLaws
+pub mod RowLaws
+pub mod TakeLaws
+pub mod NeedLaws

@@ -1,5 +1,5 @@
 -- Arguments to prepare.
-use Rattle.std.proofs.Common.{◌≡◌, ℕ, suc, ◌+◌, ◌*◌, ◌≤◌, Bool, true, false, List, [], ◌∷◌, ◌++◌, length, map, reverse, refl, sym, ap, subst, ◌∙◌, arith, append-nil, append_assoc, if◌then◌else◌}
+use Rattle.std.proofs.Common.{◌≡◌, ℕ, suc, ◌+◌, ◌*◌, ◌≤◌, Bool, true, false, List, [], ◌∷◌, ◌++◌, length, map, reverse, refl, sym, ap, subst, ◌∙◌, arith, append-nil, append_assoc, length-append, ◌<◌, if◌then◌else◌}
 use Rattle.std.proofs.lemmas.List.{reverse-append}
 use Rattle.std.specs.List.{list_any}
 use Rattle.c_macro.specs.declared.pend.Pend.{Pend}
@@ -12,7 +12,6 @@ use Rattle.c_macro.specs.SetData.{SetTable}
 use Rattle.c_macro.specs.Pending.{marks, KnownAll, KnownTasks, task_data, tasks_data, part_data}
 use Rattle.c_macro.specs.Collecting.{rows_data, KnownRows, rows_size}
 use Rattle.c_macro.specs.Machine.{todo_weight, Listing}
-use Rattle.c_macro.proofs.PartLaws.{any_map}
 
 marks_if : (s : SetTable) (b : Bool) (ps : List Pend) → marks s (if b then ps else []) ≡ (if b then marks s ps else [])
 marks_if s true ps = refl
@@ -21,18 +20,14 @@ marks_if s false ps = refl
 task : List Marked → List Marked → Bool → bodies.Task
 task w r b = record { written = w; raw = r; wanted = b }
 
-pub todo_is : (s : SetTable) (x : Todo) (parts : List Part) (n : ℕ) (row : List Pend) (w : Bool) → w ≡ list_any (λ p. is_written n (part_data p)) parts → x.wanted ≡ list_any (λ p. is_full n (part_data p)) parts
-    → x.raw.items ≡ (if x.wanted then row else []) → x.written.items ≡ (if w then row else []) → task_data s x ≡ task_of (map part_data parts) n (marks s row)
+pub todo_is : (s : SetTable) (x : Todo) (ps : List bodies.Part) (n : ℕ) (row : List Pend) (w : Bool) → w ≡ list_any (is_written n) ps → x.wanted ≡ list_any (is_full n) ps
+    → x.raw ≡ (if x.wanted then row else []) → x.written ≡ (if w then row else []) → task_data s x ≡ task_of ps n (marks s row)
 unfolding task
-todo_is s x parts n row w e f r v =
-    let e1 : w ≡ list_any (is_written n) (map part_data parts) = e ∙ any_map (is_written n) part_data parts in
-    let f1 : x.wanted ≡ list_any (is_full n) (map part_data parts) = f ∙ any_map (is_full n) part_data parts in
-    let a : marks s x.written.items ≡ (if list_any (is_written n) (map part_data parts) then marks s row else []) =
-    ap (marks s) v ∙ (marks_if s w row ∙ ap (λ b. if b then marks s row else []) e1) in
-    let b : marks s x.raw.items ≡ (if list_any (is_full n) (map part_data parts) then marks s row else []) =
-    ap (marks s) r ∙ (marks_if s x.wanted row ∙ ap (λ c. if c then marks s row else []) f1) in
-    ap (λ z. task z (marks s x.raw.items) x.wanted) a ∙ (ap (λ z. task (if list_any (is_written n) (map part_data parts) then marks s row else []) z x.wanted) b
-    ∙ ap (λ z. task (if list_any (is_written n) (map part_data parts) then marks s row else []) (if list_any (is_full n) (map part_data parts) then marks s row else []) z) f1)
+todo_is s x ps n row w e f r v =
+    let a : marks s x.written ≡ (if list_any (is_written n) ps then marks s row else []) = ap (marks s) v ∙ (marks_if s w row ∙ ap (λ b. if b then marks s row else []) e) in
+    let b : marks s x.raw ≡ (if list_any (is_full n) ps then marks s row else []) = ap (marks s) r ∙ (marks_if s x.wanted row ∙ ap (λ c. if c then marks s row else []) f) in
+    ap (λ z. task z (marks s x.raw) x.wanted) a ∙ (ap (λ z. task (if list_any (is_written n) ps then marks s row else []) z x.wanted) b
+    ∙ ap (λ z. task (if list_any (is_written n) ps then marks s row else []) (if list_any (is_full n) ps then marks s row else []) z) f)
 
 tasks_push : (ps : List bodies.Part) (i : ℕ) (rs : List (List Marked)) (r : List Marked) → tasks ps i (rs ++ r ∷ []) ≡ tasks ps i rs ++ task_of ps (i + length rs) r ∷ []
 tasks_push ps i [] r = let e : i ≡ i + 0 = omega arith in ap (λ n. task_of ps n r ∷ []) e
@@ -49,13 +44,13 @@ rows_length s (r ∷ rs) = ap suc (rows_length s rs)
 tasks_reverse : (s : SetTable) (todo : List Todo) (x : Todo) → tasks_data s (reverse (todo ++ x ∷ [])) ≡ task_data s x ∷ tasks_data s (reverse todo)
 tasks_reverse s todo x = ap (tasks_data s) (reverse-append todo (x ∷ []))
 
-tasks_known : (s : SetTable) (todo : List Todo) (x : Todo) → KnownTasks s todo → KnownAll s x.written.items × KnownAll s x.raw.items → KnownTasks s (todo ++ x ∷ [])
+tasks_known : (s : SetTable) (todo : List Todo) (x : Todo) → KnownTasks s todo → KnownAll s x.written × KnownAll s x.raw → KnownTasks s (todo ++ x ∷ [])
 tasks_known s [] x h k = (k.0, k.1, tt)
 tasks_known s (y ∷ ys) x h k = (h.0, h.1, tasks_known s ys x h.2 k)
 
-weight_push : (todo : List Todo) (x : Todo) → todo_weight (todo ++ x ∷ []) ≡ todo_weight todo + (2 * length x.raw.items + 2)
+weight_push : (todo : List Todo) (x : Todo) → todo_weight (todo ++ x ∷ []) ≡ todo_weight todo + (2 * length x.raw + 2)
 weight_push [] x = omega arith
-weight_push (y ∷ ys) x = let e : todo_weight (ys ++ x ∷ []) ≡ todo_weight ys + (2 * length x.raw.items + 2) = weight_push ys x in omega (arith, e)
+weight_push (y ∷ ys) x = let e : todo_weight (ys ++ x ∷ []) ≡ todo_weight ys + (2 * length x.raw + 2) = weight_push ys x in omega (arith, e)
 
 size_push : (rs : List (List Pend)) (r : List Pend) → rows_size (rs ++ r ∷ []) ≡ rows_size rs + (length r + 1)
 size_push [] r = omega arith
@@ -77,16 +72,17 @@ listing_starts parts whole todo e = record {
   is = λ s. rw e (append-nil (tasks (map part_data parts) 0 (rows_data s whole)));
   known = λ s h. (h, rw e tt);
   weight = let l : todo_weight todo ≡ 0 = ap todo_weight e in omega (arith, l);
+  count = omega arith;
 }
 
 pub listing_goes : (parts : List Part) (whole left rest : List (List Pend)) (row : List Pend) (todo more : List Todo) (x : Todo) → Listing parts whole left todo → left ≡ rest ++ row ∷ [] → more ≡ todo ++ x ∷ []
-    → ((s : SetTable) → task_data s x ≡ task_of (map part_data parts) (length rest) (marks s row)) → ((s : SetTable) → KnownAll s row → KnownAll s x.written.items × KnownAll s x.raw.items)
-    → length x.raw.items ≤ length row → Listing parts whole rest more
+    → ((s : SetTable) → length rest < length whole → task_data s x ≡ task_of (map part_data parts) (length rest) (marks s row)) → ((s : SetTable) → KnownAll s row → KnownAll s x.written × KnownAll s x.raw)
+    → length x.raw ≤ length row → Listing parts whole rest more
 listing_goes parts whole left rest row todo more x l e m is known size = record {
   is = λ s.
       let ps : List bodies.Part = map part_data parts in
       let a : tasks_data s (reverse more) ≡ task_of ps (length rest) (marks s row) ∷ tasks_data s (reverse todo) =
-      ap (λ ts. tasks_data s (reverse ts)) m ∙ (tasks_reverse s todo x ∙ ap (λ t. t ∷ tasks_data s (reverse todo)) (is s)) in
+      ap (λ ts. tasks_data s (reverse ts)) m ∙ (tasks_reverse s todo x ∙ ap (λ t. t ∷ tasks_data s (reverse todo)) (is s below)) in
       let b : tasks ps 0 (rows_data s left) ≡ tasks ps 0 (rows_data s rest) ++ task_of ps (length rest) (marks s row) ∷ [] =
       ap (λ rs. tasks ps 0 (rows_data s rs)) e ∙ (ap (tasks ps 0) (rows_push s rest row) ∙ (tasks_push ps 0 (rows_data s rest) (marks s row)
       ∙ ap (λ n. tasks ps 0 (rows_data s rest) ++ task_of ps n (marks s row) ∷ []) (let z : 0 + length (rows_data s rest) ≡ length rest = omega (arith, rows_length s rest) in z))) in
@@ -98,7 +94,11 @@ listing_goes parts whole left rest row todo more x l e m is known size = record 
       let r = known_rows s rest row (subst (KnownRows s) e k.0) in
       (r.0, subst (KnownTasks s) (sym m) (tasks_known s todo x k.1 (known s r.1)));
   weight =
-      let a : todo_weight more ≡ todo_weight todo + (2 * length x.raw.items + 2) = ap todo_weight m ∙ weight_push todo x in
+      let a : todo_weight more ≡ todo_weight todo + (2 * length x.raw + 2) = ap todo_weight m ∙ weight_push todo x in
       let b : rows_size left ≡ rows_size rest + (length row + 1) = ap rows_size e ∙ size_push rest row in
       omega (arith, l.weight, a, b, size);
+  count = let z = below in omega (arith, z);
 }
+  where
+    below : length rest < length whole
+    below = let a : length left ≡ length rest + 1 = ap length e ∙ length-append rest (row ∷ []) in let z = l.count in omega (arith, a, z)

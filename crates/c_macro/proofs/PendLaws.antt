@@ -37,7 +37,7 @@ known_back s (p ∷ ps) qs h = known_back s ps qs h.1
 
 pub args_known_grow : (a b : SetTable) (gs : List Given) → Grown a b → KnownArgs a gs → KnownArgs b gs
 args_known_grow a b [] g h = tt
-args_known_grow a b (x ∷ xs) g h = (known_grow a b x.written.items g h.0, known_grow a b x.full.items g h.1, args_known_grow a b xs g h.2)
+args_known_grow a b (x ∷ xs) g h = (known_grow a b x.written g h.0, known_grow a b x.full.items g h.1, args_known_grow a b xs g h.2)
 
 arg_of : List Marked → List Marked → bodies.Arg
 arg_of w f = record { written = w; full = f }
@@ -46,8 +46,8 @@ pub args_grow : (a b : SetTable) (gs : List Given) → Grown a b → KnownArgs a
 unfolding arg_of
 args_grow a b [] g h = refl
 args_grow a b (x ∷ xs) g h =
-    ap (λ w. arg_of w (marks b x.full.items) ∷ args_data b xs) (marks_grow a b x.written.items g h.0)
-    ∙ (ap (λ f. arg_of (marks a x.written.items) f ∷ args_data b xs) (marks_grow a b x.full.items g h.1)
+    ap (λ w. arg_of w (marks b x.full.items) ∷ args_data b xs) (marks_grow a b x.written g h.0)
+    ∙ (ap (λ f. arg_of (marks a x.written) f ∷ args_data b xs) (marks_grow a b x.full.items g h.1)
     ∙ ap (λ zs. arg_data a x ∷ zs) (args_grow a b xs g h.2))
 
 task_of : List Marked → List Marked → Bool → bodies.Task
@@ -55,12 +55,12 @@ task_of w r b = record { written = w; raw = r; wanted = b }
 
 pub tasks_known_grow : (a b : SetTable) (xs : List Todo) → Grown a b → KnownTasks a xs → KnownTasks b xs
 tasks_known_grow a b [] g h = tt
-tasks_known_grow a b (x ∷ xs) g h = (known_grow a b x.written.items g h.0, known_grow a b x.raw.items g h.1, tasks_known_grow a b xs g h.2)
+tasks_known_grow a b (x ∷ xs) g h = (known_grow a b x.written g h.0, known_grow a b x.raw g h.1, tasks_known_grow a b xs g h.2)
 
 pub tasks_grow : (a b : SetTable) (xs : List Todo) → Grown a b → KnownTasks a xs → tasks_data b xs ≡ tasks_data a xs
 unfolding task_of
 tasks_grow a b [] g h = refl
 tasks_grow a b (x ∷ xs) g h =
-    ap (λ w. task_of w (marks b x.raw.items) x.wanted ∷ tasks_data b xs) (marks_grow a b x.written.items g h.0)
-    ∙ (ap (λ f. task_of (marks a x.written.items) f x.wanted ∷ tasks_data b xs) (marks_grow a b x.raw.items g h.1)
+    ap (λ w. task_of w (marks b x.raw) x.wanted ∷ tasks_data b xs) (marks_grow a b x.written g h.0)
+    ∙ (ap (λ f. task_of (marks a x.written) f x.wanted ∷ tasks_data b xs) (marks_grow a b x.raw g h.1)
     ∙ ap (λ zs. task_data a x ∷ zs) (tasks_grow a b xs g h.2))

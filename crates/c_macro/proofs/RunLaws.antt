@@ -27,7 +27,7 @@ pending_marks : (ts : List Tok) → marks first_sets (map pend_of ts) ≡ unbarr
 pending_marks [] = refl
 pending_marks (t ∷ ts) = ap (λ xs. mark first_sets (pend_of t) ∷ xs) (pending_marks ts)
 
-pub begins_known : (m : Machine) (ts : List Tok) → m.sets ≡ first_sets → m.opens.items ≡ [] → m.out.items ≡ [] → m.units ≡ 0 → m.pend.items ≡ reverse (map pend_of ts) → KnownMachine m
+pub begins_known : (m : Machine) (ts : List Tok) → m.sets ≡ first_sets → m.opens.items ≡ [] → m.out.items ≡ [] → m.units ≡ 0 → m.pend ≡ reverse (map pend_of ts) → KnownMachine m
 begins_known m ts es eo eout eu ep = record {
   pend = rw (es, ep) (known_reverse first_sets (map pend_of ts) (pending_known ts));
   out = rw eout tt;
@@ -35,7 +35,7 @@ begins_known m ts es eo eout eu ep = record {
   units = rw eu (omega arith);
 }
 
-pub begins_all : (d : Macros) (m : Machine) (ts : List Tok) (o : Outcome) → m.sets ≡ first_sets → m.opens.items ≡ [] → m.out.items ≡ [] → m.units ≡ 0 → m.pend.items ≡ reverse (map pend_of ts) → TurnUpTo d m turn.Level o → expands d ts o
+pub begins_all : (d : Macros) (m : Machine) (ts : List Tok) (o : Outcome) → m.sets ≡ first_sets → m.opens.items ≡ [] → m.out.items ≡ [] → m.units ≡ 0 → m.pend ≡ reverse (map pend_of ts) → TurnUpTo d m turn.Level o → expands d ts o
 begins_all d m ts o es eo eout eu ep e =
     let e1 : Ends most_units d [] (marks first_sets (reverse (reverse (map pend_of ts)))) [] 0 o = rw (es, eo, eout, eu, ep) at e in
     let e2 : Ends most_units d [] (unbarred ts) [] 0 o = subst (λ x. Ends most_units d [] x [] 0 o) (ap (marks first_sets) (reverse_twice (map pend_of ts)) ∙ pending_marks ts) e1 in

@@ -1,20 +1,13 @@
 -- How the program tells the arguments that it has taken.
-use Rattle.std.specs.Prelude.{◌≡◌, ◌⊎◌, ◌&&◌, nat_eq, ℕ, zero, suc, ◌+◌, ◌<◌, ◌++◌, Bool, true, false, List, [], ◌∷◌, Option, Some, None, option_map, length, map, reverse, ◌≤◌}
+use Rattle.std.specs.Prelude.{◌≡◌, ℕ, zero, suc, ◌+◌, ◌<◌, ◌++◌, Bool, true, false, List, [], ◌∷◌, Option, Some, None, option_map, length, map, reverse}
 use Rattle.c_macro.specs.declared.pend.Pend.{Pend}
-use Rattle.c_macro.specs.declared.collect.Mark.{Mark}
-use Rattle.c_macro.specs.declared.collect.Mark.TheVariants as read
 use Rattle.c_macro.specs.declared.collect.Taking.{Taking}
 use Rattle.c_macro.specs.declared.collect.Taken.{Taken}
 use Rattle.c_macro.specs.Marked.{Marked}
 use Rattle.c_macro.specs.Calls as calls
 use Rattle.c_macro.specs.SetData.{SetTable}
 use Rattle.c_macro.specs.Pending.{mark, marks, KnownAll}
-
-abbrev pub mark_data : Mark → calls.Mark
-mark_data read.Opens = calls.Opens
-mark_data read.Closes = calls.Closes
-mark_data read.Parts = calls.Parts
-mark_data read.Inner = calls.Inner
+use Rattle.c_macro.specs.Rows.{depth_of}
 
 abbrev pub rows_data : SetTable → List (List Pend) → List (List Marked)
 rows_data s rs = map (marks s) rs
@@ -32,14 +25,6 @@ all_before (t ∷ ts) xss = calls.before_first t (all_before ts xss)
 abbrev pub taking_behind : List (List Marked) → List Marked → Option calls.Closed → Option calls.Closed
 taking_behind args current o = option_map (λ c. let r : calls.Closed = record { args = args ++ all_before current c.args; last = c.last; rest = c.rest } in r) o
 
--- what the rest of a call comes to
-abbrev pub takes : SetTable → Taking → List Marked → Option calls.Closed
-takes s t ts = taking_behind (rows_data s t.args.items) (marks s t.current.items) (calls.closed t.commas t.deep ts)
-
-pub record KnownTaking (s : SetTable) (t : Taking) : Type 0 where
-  pub args : KnownRows s t.args.items
-  pub current : KnownAll s t.current.items
-
 -- a comma may part arguments yet
 abbrev pub more_commas : Option ℕ → Bool
 more_commas None = true
@@ -51,28 +36,19 @@ fewer_commas None = None
 fewer_commas (Some zero) = Some zero
 fewer_commas (Some (suc n)) = Some n
 
--- a token that belongs to the argument at hand, and changes nothing else
-abbrev pub IsInner : Taking → Pend → Type 0
-IsInner t p = (calls.mark_of p.tok ≡ calls.Inner) ⊎ ((calls.mark_of p.tok ≡ calls.Parts) × ((nat_eq t.deep 0 && more_commas t.commas) ≡ false))
-
 abbrev pub rows_size : List (List Pend) → ℕ
 rows_size [] = 0
 rows_size (r ∷ rs) = length r + 1 + rows_size rs
 
-abbrev pub taking_size : Taking → ℕ
-taking_size t = rows_size t.args.items + length t.current.items
-
--- a token was taken
-pub record Took (old new : Taking) (p : Pend) : Type 0 where
-  pub is : (s : SetTable) (ts : List Marked) → takes s old (mark s p ∷ ts) ≡ takes s new ts
-  pub known : (s : SetTable) → KnownTaking s old → p.set < length s → KnownTaking s new
-  pub size : taking_size new ≡ taking_size old + 1
-
--- a token was taken that closes the call
-pub record Closes (old new : Taking) (p last : Pend) : Type 0 where
-  pub is : (s : SetTable) (ts : List Marked) → takes s old (mark s p ∷ ts) ≡ Some (record { args = rows_data s new.args.items; last = mark s last; rest = ts })
-  pub known : (s : SetTable) → KnownTaking s old → p.set < length s → KnownRows s new.args.items × (last.set < length s)
-  pub size : rows_size new.args.items ≡ taking_size old + 1
+-- while a row is parted into arguments: what is taken and what is left come to what the row comes to,
+-- whatever stands behind it
+pub record Splitting (row : List Pend) (commas : Option ℕ) (t : Taking) : Type 0 where
+  pub current : List Pend
+  pub here : t.here ≡ current ++ t.left
+  pub balanced : depth_of 0 t.left ≡ Some 0
+  pub is : (s : SetTable) (ts : List Marked) → taking_behind (rows_data s t.args.items) (marks s current) (calls.closed t.commas 0 (marks s t.left ++ ts)) ≡ calls.closed commas 0 (marks s row ++ ts)
+  pub size : rows_size t.args.items + length t.here ≡ length row
+  pub known : (s : SetTable) → KnownAll s row → KnownRows s t.args.items × KnownAll s t.here
 
 abbrev pub taken_data : SetTable → Taken → List Pend → calls.Closed
 taken_data s t rest = record { args = rows_data s t.args.items; last = mark s t.last; rest = marks s (reverse rest) }
@@ -81,10 +57,3 @@ pub record KnownTaken (s : SetTable) (t : Taken) (rest : List Pend) : Type 0 whe
   pub args : KnownRows s t.args.items
   pub last : t.last.set < length s
   pub behind : KnownAll s rest
-
--- while a call is taken: these tokens are left of those
-pub record Collecting (commas : Option ℕ) (whole left : List Pend) (t : Taking) : Type 0 where
-  pub is : (s : SetTable) → takes s t (marks s (reverse left)) ≡ calls.closed commas 0 (marks s (reverse whole))
-  pub known : (s : SetTable) → KnownAll s whole → KnownTaking s t × KnownAll s left
-  pub size : taking_size t + length left ≡ length whole
-  pub deep : t.deep + length left ≤ length whole

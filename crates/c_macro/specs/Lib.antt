@@ -7,11 +7,15 @@ pub mod Joining
 pub mod Machine
 pub mod MacroData
 pub mod Marked
+pub mod Marking
+pub mod Needing
 pub mod Pending
 pub mod Placing
 pub mod Reading
+pub mod Rows
 pub mod SetData
 pub mod Strings
 pub mod Table
 pub mod Turns
+pub mod Walking
 pub mod Worklist

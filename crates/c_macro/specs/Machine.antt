@@ -11,10 +11,11 @@ use Rattle.c_macro.specs.Collecting.{rows_data, KnownRows, rows_size}
 -- what is left to do on arguments, as a number
 abbrev pub todo_weight : List Todo → ℕ
 todo_weight [] = 0
-todo_weight (x ∷ xs) = 2 * length x.raw.items + 2 + todo_weight xs
+todo_weight (x ∷ xs) = 2 * length x.raw + 2 + todo_weight xs
 
 -- while the arguments to prepare are listed: these rows are left
 pub record Listing (parts : List Part) (whole left : List (List Pend)) (todo : List Todo) : Type 0 where
   pub is : (s : SetTable) → bodies.tasks (map part_data parts) 0 (rows_data s left) ++ tasks_data s (reverse todo) ≡ bodies.tasks (map part_data parts) 0 (rows_data s whole)
   pub known : (s : SetTable) → KnownRows s whole → KnownRows s left × KnownTasks s todo
   pub weight : todo_weight todo + 2 * rows_size left ≤ 2 * rows_size whole
+  pub count : length left ≤ length whole

@@ -29,21 +29,21 @@ part_data (part.Written s i) = bodies.Written s i
 part_data (part.Full s i) = bodies.Full s i
 
 abbrev pub arg_data : SetTable → Given → bodies.Arg
-arg_data s g = record { written = marks s g.written.items; full = marks s g.full.items }
+arg_data s g = record { written = marks s g.written; full = marks s g.full.items }
 
 abbrev pub args_data : SetTable → List Given → List bodies.Arg
 args_data s gs = map (λ g. arg_data s g) gs
 
 abbrev pub KnownArgs : SetTable → List Given → Type 0
 KnownArgs s [] = Unit {0}
-KnownArgs s (g ∷ gs) = KnownAll s g.written.items × KnownAll s g.full.items × KnownArgs s gs
+KnownArgs s (g ∷ gs) = KnownAll s g.written × KnownAll s g.full.items × KnownArgs s gs
 
 abbrev pub task_data : SetTable → Todo → bodies.Task
-task_data s x = record { written = marks s x.written.items; raw = marks s x.raw.items; wanted = x.wanted }
+task_data s x = record { written = marks s x.written; raw = marks s x.raw; wanted = x.wanted }
 
 abbrev pub tasks_data : SetTable → List Todo → List bodies.Task
 tasks_data s xs = map (λ x. task_data s x) xs
 
 abbrev pub KnownTasks : SetTable → List Todo → Type 0
 KnownTasks s [] = Unit {0}
-KnownTasks s (x ∷ xs) = KnownAll s x.written.items × KnownAll s x.raw.items × KnownTasks s xs
+KnownTasks s (x ∷ xs) = KnownAll s x.written × KnownAll s x.raw × KnownTasks s xs

@@ -26,9 +26,9 @@ frame_of s f = record {
   macro = f.def.now;
   names = names_of f.def.now.params;
   last = mark s f.last;
-  rest = marks s (reverse f.rest.items);
+  rest = marks s (reverse f.rest);
   out = marks s f.out.items;
-  written = marks s f.written.items;
+  written = marks s f.written;
   todo = tasks_data s (reverse f.todo.items);
   done = args_data s f.done.items;
 }
@@ -41,9 +41,9 @@ frames_of s fs = reverse (map (frame_of s) fs)
 pub record KnownOpen (s : SetTable) (f : Open) : Type 0 where
   pub name : f.name.set < length s
   pub last : f.last.set < length s
-  pub rest : KnownAll s f.rest.items
+  pub rest : KnownAll s f.rest
   pub out : KnownAll s f.out.items
-  pub written : KnownAll s f.written.items
+  pub written : KnownAll s f.written
   pub todo : KnownTasks s f.todo.items
   pub done : KnownArgs s f.done.items
   pub params : f.def.now.params ≡ Some (names_of f.def.now.params)
@@ -54,7 +54,7 @@ KnownOpens s [] = Unit {0}
 KnownOpens s (f ∷ fs) = KnownOpen s f × KnownOpens s fs
 
 pub record KnownMachine (m : Machine) : Type 0 where
-  pub pend : KnownAll m.sets m.pend.items
+  pub pend : KnownAll m.sets m.pend
   pub out : KnownAll m.sets m.out.items
   pub opens : KnownOpens m.sets m.opens.items
   pub units : m.units ≤ most_units
@@ -78,7 +78,7 @@ LevelEnds d m ts o = Ends most_units d (frames_of m.sets m.opens.items) ts (mark
 
 -- after this turn all comes to o
 abbrev pub TurnUpTo : Macros → Machine → Turn → Outcome → Type 0
-TurnUpTo d m turn.Level o = LevelEnds d m (marks m.sets (reverse m.pend.items)) o
+TurnUpTo d m turn.Level o = LevelEnds d m (marks m.sets (reverse m.pend)) o
 TurnUpTo d m (turn.Call f) o = CallEnds most_units d (frames_of m.sets m.opens.items) (frame_of m.sets f) m.units o
 TurnUpTo d m turn.Finished o = o ≡ Done (marks m.sets m.out.items) m.units
 TurnUpTo d m (turn.Refused r) o = o ≡ Refused r
@@ -90,14 +90,14 @@ TextUpTo d fs text rest out u o = (q : Outcome) × Replaced most_units d text re
 -- ---- a number that falls with each turn
 
 abbrev pub open_weight : Open → ℕ
-open_weight f = 2 * length f.rest.items + todo_weight f.todo.items + 1
+open_weight f = 2 * length f.rest + todo_weight f.todo.items + 1
 
 abbrev pub opens_weight : List Open → ℕ
 opens_weight [] = 0
 opens_weight (f ∷ fs) = open_weight f + opens_weight fs
 
 abbrev pub turn_weight : Machine → Turn → ℕ
-turn_weight m turn.Level = 2 * (most_units - m.units) + 2 * length m.pend.items + opens_weight m.opens.items + 1
+turn_weight m turn.Level = 2 * (most_units - m.units) + 2 * length m.pend + opens_weight m.opens.items + 1
 turn_weight m (turn.Call f) = 2 * (most_units - m.units) + open_weight f + opens_weight m.opens.items
 turn_weight m turn.Finished = 0
 turn_weight m (turn.Refused r) = 0

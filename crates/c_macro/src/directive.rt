@@ -7,6 +7,7 @@ ghost use Rattle.c_macro.specs.Directive.{all_differ, all_params, begins_among, 
 ghost use Rattle.c_macro.specs.Reading.{params_data, directive_data};
 
 use crate::def::Def;
+use crate::places::Places;
 use crate::tokens::{copy_toks, is_named, is_param, is_punct, is_reserved, is_va_args, is_word};
 use c_tokens::{Line, Tok};
 use edt_base::Text;
@@ -132,26 +133,13 @@ fn is_body(variadic: bool, body: &[Tok]) -> bool
     !begins_join(body) && !ends_join(body) && (variadic || !has_va_args(body))
 }
 
-fn is_one_of(names: &[Text], spell: &Text) -> bool
-    ensures { result ≡ list_any (bytes_eq spell.now) names.now }
-{
-    names.iter().any(|name| spell.as_str() == name.as_str())
-}
-
-/// Whether a token stands for an argument.
-fn is_among(names: &[Text], variadic: bool, tok: &Tok) -> bool
-    ensures { result ≡ is_among (all_params names.now variadic) tok.now }
-{
-    is_word(tok) && (is_one_of(names, &tok.spell) || (variadic && is_va_args(tok)))
-}
-
 /// Whether a parameter stands behind each `#`.
-fn hashes_fit(names: &[Text], variadic: bool, body: &[Tok]) -> bool
-    ensures { result ≡ hashes_fit (all_params names.now variadic) body.now }
+fn hashes_fit(places: &Places, body: &[Tok]) -> bool
+    ensures { result ≡ hashes_fit places.now body.now }
 {
     let mut left = body;
     while let Some((tok, rest)) = left.split_first() {
-        if is_punct("#", tok) && !begins_among(names, variadic, rest) {
+        if is_punct("#", tok) && !begins_among(places, rest) {
             return false;
         }
         left = rest;
@@ -159,12 +147,12 @@ fn hashes_fit(names: &[Text], variadic: bool, body: &[Tok]) -> bool
     true
 }
 
-fn begins_among(names: &[Text], variadic: bool, toks: &[Tok]) -> bool
-    ensures { result ≡ begins_among (all_params names.now variadic) toks.now }
+fn begins_among(places: &Places, toks: &[Tok]) -> bool
+    ensures { result ≡ begins_among places.now toks.now }
 {
     match toks.first() {
         None => false,
-        Some(tok) => is_among(names, variadic, tok),
+        Some(tok) => places.has(tok),
     }
 }
 
@@ -188,11 +176,8 @@ fn is_function(alloc: Global, params: &Params<'_>) -> Result<bool, AllocError>
 {
     let names = params.names.as_slice();
     let differ = all_differ(alloc, names)?;
-    Ok(
-        differ
-            && is_body(params.variadic, params.rest)
-            && hashes_fit(names, params.variadic, params.rest),
-    )
+    let places = Places::of(alloc, names, params.variadic)?;
+    Ok(differ && is_body(params.variadic, params.rest) && hashes_fit(&places, params.rest))
 }
 
 /// A function-like macro, of the tokens behind the opening bracket of its parameters.

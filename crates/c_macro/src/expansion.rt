@@ -11,6 +11,7 @@ ghost use Rattle.c_macro.specs.declared.turn.Turn.TheVariants as turn;
 
 use crate::defs::Defs;
 use crate::pend::Pend;
+use crate::row::Pending;
 use crate::sets::Sets;
 use crate::tokens::copy_tok;
 use crate::turn::{Machine, Open, Turn, go_on, level};
@@ -79,7 +80,7 @@ fn begin<'a>(alloc: Global, toks: &[Tok]) -> Result<Machine<'a>, AllocError>
     Ok(Machine {
         sets: Sets::new(alloc),
         opens: Vec::new(alloc),
-        pend,
+        pend: Pending::of(pend),
         out: Vec::new(alloc),
         units: 0,
     })

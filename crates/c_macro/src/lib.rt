@@ -9,9 +9,15 @@ mod expansion;
 mod joiner;
 mod laws;
 mod machine;
+mod marks;
+mod needs;
 mod part;
 mod pend;
 mod place;
+mod places;
+#[cfg(test)]
+mod plain;
+mod row;
 mod same;
 mod sets;
 mod strings;

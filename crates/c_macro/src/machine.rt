@@ -1,6 +1,6 @@
 //! A worklist of pending tokens and open calls (ISO C, 6.10.3.4).
 
-ghost use Rattle.std.specs.Prelude.{◌≡◌, ◌+◌, ◌*◌, ◌-◌, ◌<◌, ◌≤◌, ◌++◌, ◌∷◌, [], List, IfOk, IfSome, OnOk, Some, None, length, map, reverse, option_map, if◌then◌else◌};
+ghost use Rattle.std.specs.Prelude.{◌≡◌, ◌+◌, ◌*◌, ◌-◌, ◌<◌, ◌≤◌, ◌++◌, ◌∷◌, [], List, ℕ, IfOk, IfSome, OnOk, Some, None, length, map, reverse, option_map, if◌then◌else◌};
 ghost use Rattle.std.specs.List.{list_any};
 ghost use Rattle.c_macro.specs.Directive.{all_params};
 ghost use Rattle.c_macro.specs.Bodies as bodies;
@@ -13,11 +13,14 @@ ghost use Rattle.c_macro.specs.Table.{defs_of};
 ghost use Rattle.c_macro.specs.Pending.{mark, marks, KnownAll, KnownTasks, KnownArgs, args_data, task_data, tasks_data, part_data};
 ghost use Rattle.c_macro.specs.Collecting.{rows_data, KnownRows, rows_size};
 ghost use Rattle.c_macro.specs.Machine.{todo_weight};
+ghost use Rattle.c_macro.specs.Needing.{NeedsOf};
 
 use crate::def::Def;
 use crate::defs::Defs;
-use crate::part::{Part, needs_full, needs_written};
-use crate::pend::{Pend, Row, Todo, copy_pends};
+use crate::needs::{Needs, flag};
+use crate::part::Part;
+use crate::pend::{Pend, Todo};
+use crate::row::Row;
 use crate::sets::Sets;
 use crate::tokens::is_word;
 use edt_base::Text;
@@ -47,7 +50,7 @@ pub(crate) fn fit(
     ensures size { IfOk result (λ r. IfSome r (λ v. rows_size v.items ≤ rows_size args.items + 1)) }
 {
     if variadic {
-        let fit = fit_variable(alloc, names, args)?;
+        let fit = fit_variable(names, args)?;
         return Ok(fit);
     }
     if names.is_empty() {
@@ -65,17 +68,13 @@ fn fit_none(alloc: Global, args: Vec<Row>) -> Option<Vec<Row>>
     ensures none { IfSome result (λ v. v.items ≡ []) }
 {
     match args.as_slice() {
-        [only] if only.toks.is_empty() => Some(Vec::new(alloc)),
+        [only] if only.is_empty() => Some(Vec::new(alloc)),
         _ => None,
     }
 }
 
 /// A variable part that is left out is empty. The one error is want of memory.
-fn fit_variable(
-    alloc: Global,
-    names: &[Text],
-    args: Vec<Row>,
-) -> Result<Option<Vec<Row>>, AllocError>
+fn fit_variable(names: &[Text], args: Vec<Row>) -> Result<Option<Vec<Row>>, AllocError>
     ensures is { IfOk result (λ r. (s : SetTable) → option_map (λ v. rows_data s v.items) r ≡ fit_variable (length names.now) (rows_data s args.items)) }
     ensures known { IfOk result (λ r. IfSome r (λ v. (s : SetTable) → KnownRows s args.items → KnownRows s v.items)) }
     ensures size { IfOk result (λ r. IfSome r (λ v. rows_size v.items ≤ rows_size args.items + 1)) }
@@ -86,23 +85,21 @@ fn fit_variable(
         return Ok(Some(args));
     }
     if count == names.len() {
-        args.push(Row {
-            toks: Vec::new(alloc),
-        })?;
+        args.push(Row::none())?;
         return Ok(Some(args));
     }
     Ok(None)
 }
 
 /// An argument to prepare. The one error is want of memory.
-fn todo_of(alloc: Global, parts: &[Part], number: usize, row: Row) -> Result<Todo, AllocError>
-    ensures is { IfOk result (λ x. (s : SetTable) → task_data s x ≡ task_of (map part_data parts.now) number (marks s row)) }
-    ensures known { IfOk result (λ x. (s : SetTable) → KnownAll s row → KnownAll s x.written.items × KnownAll s x.raw.items) }
-    ensures size { IfOk result (λ x. length x.raw.items ≤ length row) }
+fn todo_of(needs: &Needs, number: usize, row: Row) -> Result<Todo, AllocError>
+    ensures is { IfOk result (λ x. (s : SetTable) (ps : List bodies.Part) (count : ℕ) → NeedsOf ps count needs.now → number < count → task_data s x ≡ task_of ps number (marks s row)) }
+    ensures known { IfOk result (λ x. (s : SetTable) → KnownAll s row → KnownAll s x.written × KnownAll s x.raw) }
+    ensures size { IfOk result (λ x. length x.raw ≤ length row) }
 {
-    let wanted = needs_full(parts, number);
-    let raw = copy_if(alloc, wanted, row.toks.as_slice())?;
-    let written = keep_if(alloc, needs_written(parts, number), row.toks);
+    let wanted = flag(needs.full.as_slice(), number);
+    let written = copy_if(flag(needs.written.as_slice(), number), &row)?;
+    let raw = keep_if(wanted, row);
     Ok(Todo {
         written,
         raw,
@@ -110,22 +107,22 @@ fn todo_of(alloc: Global, parts: &[Part], number: usize, row: Row) -> Result<Tod
     })
 }
 
-/// A copy of tokens where it is needed. The one error is want of memory.
-fn copy_if(alloc: Global, needed: bool, toks: &[Pend]) -> Result<Vec<Pend>, AllocError>
-    ensures { IfOk result (λ v. v.items ≡ (if needed then toks.now else [])) }
+/// The same tokens once more where they are needed. The one error is want of memory.
+fn copy_if(needed: bool, row: &Row) -> Result<Row, AllocError>
+    ensures { IfOk result (λ r. r ≡ (if needed then row.now else [])) }
 {
     if needed {
-        let copy = copy_pends(alloc, toks)?;
+        let copy = row.copy()?;
         return Ok(copy);
     }
-    Ok(Vec::new(alloc))
+    Ok(Row::none())
 }
 
 /// Tokens where they are needed.
-fn keep_if(alloc: Global, needed: bool, toks: Vec<Pend>) -> Vec<Pend>
-    ensures { result.items ≡ (if needed then toks.items else []) }
+fn keep_if(needed: bool, row: Row) -> Row
+    ensures { result ≡ (if needed then row else []) }
 {
-    if needed { toks } else { Vec::new(alloc) }
+    if needed { row } else { Row::none() }
 }
 
 /// The arguments to prepare, the first one last. The one error is want of memory.
@@ -138,11 +135,12 @@ pub(crate) fn todos_of(
     ensures known { IfOk result (λ v. (s : SetTable) → KnownRows s args.items → KnownTasks s v.items) }
     ensures weight { IfOk result (λ v. todo_weight v.items ≤ 2 * rows_size args.items) }
 {
+    let needs = Needs::of(alloc, parts, args.as_slice().len())?;
     let mut args = args;
     let mut todo = Vec::with_capacity(alloc, args.len())?;
     while let Some(row) = args.pop() {
         let number = args.as_slice().len();
-        todo.push(todo_of(alloc, parts, number, row)?)?;
+        todo.push(todo_of(&needs, number, row)?)?;
     }
     Ok(todo)
 }

@@ -9,6 +9,7 @@ ghost use Rattle.c_macro.specs.Placing.{spaced_if};
 
 use crate::joiner::respaced;
 use crate::pend::Pend;
+use crate::row::Pending;
 use crate::sets::Sets;
 use std::alloc::AllocError;
 
@@ -17,19 +18,19 @@ use std::alloc::AllocError;
 /// memory.
 pub(crate) fn place(
     sets: &mut Sets,
-    pend: &mut Vec<Pend>,
+    pend: &mut Pending,
     toks: Vec<Pend>,
     bars: usize,
     spaced: bool,
 ) -> Result<(), AllocError>
     requires bars { bars < length sets.old }
     requires toks { KnownAll sets.old toks.items }
-    requires pend { KnownAll sets.old pend.old.items }
+    requires pend { KnownAll sets.old pend.old }
     ensures grown { Grown sets.old sets.new }
-    ensures known { OnOk result (KnownAll sets.new pend.new.items) }
-    ensures is { OnOk result (marks sets.new (reverse pend.new.items)
-        ≡ spaced_as spaced (add_bars (bars_of sets.old bars) (marks sets.old toks.items)) ++ marks sets.old (reverse pend.old.items)) }
-    ensures size { OnOk result (length pend.new.items ≡ length pend.old.items + length toks.items) }
+    ensures known { OnOk result (KnownAll sets.new pend.new) }
+    ensures is { OnOk result (marks sets.new (reverse pend.new)
+        ≡ spaced_as spaced (add_bars (bars_of sets.old bars) (marks sets.old toks.items)) ++ marks sets.old (reverse pend.old)) }
+    ensures size { OnOk result (length pend.new ≡ length pend.old + length toks.items) }
 {
     let mut toks = toks;
     while let Some(tok) = toks.pop() {

@@ -1,13 +1,15 @@
 //! Texts and what they come to.
 
+use crate::plain::{plain, unbarred};
 use crate::{Defs, expand};
 use c_tokens::{CEnd, Lines, Tok};
 use edt_base::Rule;
 use std::alloc::{AllocError, Global};
 use std::test::Fail;
 
-/// A text's lines, expanded, `_` before a token that white space precedes and `|` behind each line.
-fn expanded(alloc: Global, text: &[u8], out: &mut String) -> Result<(), CEnd> {
+/// A text's lines, expanded by `expand` or by the plain body, `_` before a token that white space
+/// precedes and `|` behind each line.
+fn expanded(alloc: Global, text: &[u8], plainly: bool, out: &mut String) -> Result<(), CEnd> {
     let mut defs = Defs::new(alloc);
     let mut lines = Lines::new(text);
     for _ in 0..10_000 {
@@ -16,25 +18,30 @@ fn expanded(alloc: Global, text: &[u8], out: &mut String) -> Result<(), CEnd> {
         };
         if line.directive {
             defs.apply(&line)?;
+        } else if plainly {
+            let toks = unbarred(alloc, line.toks.as_slice())?;
+            for p in plain(alloc, &defs, toks.as_slice(), 1_000)? {
+                push_tok(&p.tok, out)?;
+            }
+            out.push_str("|")?;
         } else {
-            let toks = expand(alloc, &defs, &line.toks)?;
-            push_toks(&toks, out)?;
+            for tok in expand(alloc, &defs, &line.toks)? {
+                push_tok(&tok, out)?;
+            }
+            out.push_str("|")?;
         }
     }
     Ok(())
 }
 
-fn push_toks(toks: &Vec<Tok>, out: &mut String) -> Result<(), AllocError> {
-    for tok in toks {
-        out.push_str(if tok.spaced { "_" } else { "" })?;
-        out.push_str(tok.spell.as_str())?;
-    }
-    out.push_str("|")
+fn push_tok(tok: &Tok, out: &mut String) -> Result<(), AllocError> {
+    out.push_str(if tok.spaced { "_" } else { "" })?;
+    out.push_str(tok.spell.as_str())
 }
 
-fn outcome(alloc: Global, text: &[u8]) -> Result<String, CEnd> {
+fn outcome(alloc: Global, text: &[u8], plainly: bool) -> Result<String, CEnd> {
     let mut out = String::new(alloc);
-    match expanded(alloc, text, &mut out) {
+    match expanded(alloc, text, plainly, &mut out) {
         Ok(()) => {}
         Err(CEnd::Rule(Rule::C1)) => out.push_str("C1")?,
         Err(CEnd::Rule(Rule::C2)) => out.push_str("C2")?,
@@ -62,6 +69,12 @@ const ROWS: &[(&str, &str)] = &[
         "1|_1|_1|2,_3_||",
     ),
     ("#define f(x, y, ...) x\nf()", "C3"),
+    (
+        "#define a b\n#define b a\n#define f(x) [x f(x)]\n#define cat(x, y) x##y\n#define p q(\n#define q(x) <x>\n#define str(x) #x\n#define m(a) a*n\n#define n(a) m(a)\na\nf(1)\ncat(,z)\ncat(,)\np 3)\nstr( k  \"s\\n\" )\nm(2)(9)\ncat(+, -)",
+        "a|[1_f(1)]|z||<3>|\"k \\\"s\\\\n\\\"\"|2*9*n|C4",
+    ),
+    ("#define cat(x, y) x##y\ncat(1", "C2"),
+    ("#define cat(x, y) x##y\ncat(1)", "C3"),
     // white space
     (
         "#define e\n#define s(x) #x\n#define xs(x) s(x)\nxs(a e+)",
@@ -156,9 +169,11 @@ const ROWS: &[(&str, &str)] = &[
 fn texts_come_to_their_outcomes(rt: HostRuntime) -> Result<(), Fail> {
     let alloc = rt.alloc();
     for (text, is) in ROWS {
-        match outcome(alloc, text.as_bytes()) {
-            Ok(out) => assert_eq!(rt; out.as_str(), *is),
-            Err(_) => assert_eq!(rt; "an error", *is),
+        for plainly in [false, true] {
+            match outcome(alloc, text.as_bytes(), plainly) {
+                Ok(out) => assert_eq!(rt; out.as_str(), *is),
+                Err(_) => assert_eq!(rt; "an error", *is),
+            }
         }
     }
     Ok(())
@@ -181,39 +196,44 @@ fn locked_names_stay(rt: HostRuntime) -> Result<(), Fail> {
     Ok(())
 }
 
-/// `front` and `back` so many times each, around the middle.
-fn nested(
-    alloc: Global,
-    start: &str,
-    front: &str,
-    middle: &str,
-    back: &str,
-    count: usize,
-) -> Result<String, AllocError> {
+/// What calls nested so deep come to, or without their closing brackets.
+fn nested(alloc: Global, count: usize, closed: bool) -> Result<String, CEnd> {
+    let mut text = String::from_str(alloc, "#define f(x) x\n")?;
+    for _ in 0..count {
+        text.push_str("f(")?;
+    }
+    text.push_str("1")?;
+    for _ in 0..count {
+        text.push_str(if closed { ")" } else { " " })?;
+    }
+    outcome(alloc, text.as_str().as_bytes(), false)
+}
+
+/// What the first of so many names comes to, each defined as the next.
+fn chained(alloc: Global, count: usize) -> Result<String, CEnd> {
     let mut text = String::new(alloc);
-    text.push_str(start)?;
-    for _ in 0..count {
-        text.push_str(front)?;
+    for at in 1..count {
+        let line = format!(in alloc; "#define a{} a{at}\n", at - 1)?;
+        text.push_str(line.as_str())?;
     }
-    text.push_str(middle)?;
-    for _ in 0..count {
-        text.push_str(back)?;
-    }
-    Ok(text)
+    let line = format!(in alloc; "#define a{} z\na0", count.saturating_sub(1))?;
+    text.push_str(line.as_str())?;
+    outcome(alloc, text.as_str().as_bytes(), false)
 }
 
 #[test]
-fn calls_may_be_nested_deep(rt: HostRuntime) -> Result<(), Fail> {
+fn calls_and_names_may_go_deep(rt: HostRuntime) -> Result<(), Fail> {
     let alloc = rt.alloc();
-    let text = nested(alloc, "#define g(x) x\n", "g(", "1", ")", 1_000)?;
-    match outcome(alloc, text.as_bytes()) {
-        Ok(out) => assert_eq!(rt; out.as_str(), "1|"),
-        Err(_) => assert!(rt; false),
-    }
-    let open = nested(alloc, "#define f(x) x\n", "f(", "", "", 1_000)?;
-    match outcome(alloc, open.as_bytes()) {
-        Ok(out) => assert_eq!(rt; out.as_str(), "C2"),
-        Err(_) => assert!(rt; false),
+    let rows = [
+        (nested(alloc, 10_000, true), "1|"),
+        (nested(alloc, 10_000, false), "C2"),
+        (chained(alloc, 4_096), "z|"),
+    ];
+    for (out, is) in rows {
+        match out {
+            Ok(out) => assert_eq!(rt; out.as_str(), is),
+            Err(_) => assert!(rt; false),
+        }
     }
     Ok(())
 }

@@ -21,6 +21,7 @@ use crate::machine::{fit, macro_at, todos_of};
 use crate::part::{Part, parts};
 use crate::pend::{Given, Pend, Todo};
 use crate::place::place;
+use crate::row::{Pending, Row};
 use crate::sets::Sets;
 use crate::text::text;
 use crate::tokens::is_punct;
@@ -38,9 +39,9 @@ pub(crate) struct Open<'a> {
     def: &'a Def,
     parts: Vec<Part<'a>>,
     last: Pend,
-    rest: Vec<Pend>,
+    rest: Pending,
     out: Vec<Pend>,
-    written: Vec<Pend>,
+    written: Row,
     todo: Vec<Todo>,
     done: Vec<Given>,
 }
@@ -51,7 +52,7 @@ pub(crate) struct Open<'a> {
 pub(crate) struct Machine<'a> {
     pub sets: Sets,
     pub opens: Vec<Open<'a>>,
-    pub pend: Vec<Pend>,
+    pub pend: Pending,
     pub out: Vec<Pend>,
     pub units: u64,
 }
@@ -73,8 +74,8 @@ pub(crate) enum Turn<'a> {
 fn put<'a>(machine: &mut Machine<'a>, tok: Pend) -> Result<Turn<'a>, AllocError>
     requires known { KnownMachine machine.old }
     requires tok { tok.set < length machine.old.sets }
-    ensures { IfOk result (λ r. (d : List ℕ → Option Macro) → look d (mark machine.old.sets tok ∷ marks machine.old.sets (reverse machine.old.pend.items)) ≡ Put (mark machine.old.sets tok) (marks machine.old.sets (reverse machine.old.pend.items))
-        → Turned d machine.new r (LevelEnds d machine.old (mark machine.old.sets tok ∷ marks machine.old.sets (reverse machine.old.pend.items))) (turn_weight machine.old turn.Level + 2)) }
+    ensures { IfOk result (λ r. (d : List ℕ → Option Macro) → look d (mark machine.old.sets tok ∷ marks machine.old.sets (reverse machine.old.pend)) ≡ Put (mark machine.old.sets tok) (marks machine.old.sets (reverse machine.old.pend))
+        → Turned d machine.new r (LevelEnds d machine.old (mark machine.old.sets tok ∷ marks machine.old.sets (reverse machine.old.pend))) (turn_weight machine.old turn.Level + 2)) }
 {
     machine.out.push(tok)?;
     Ok(Turn::Level)
@@ -103,7 +104,7 @@ fn put_in_place<'a>(
     ensures { IfOk result (λ r. (d : List ℕ → Option Macro) → Turned d machine.new r
         (TextUpTo d (frames_of machine.old.sets machine.old.opens.items)
         (option_map (λ v. spaced_as name.now.tok.spaced (add_bars (with_bar (bars_of machine.old.sets set) name.now.tok.spell) (marks machine.old.sets v.items))) text)
-        (marks machine.old.sets (reverse machine.old.pend.items)) (marks machine.old.sets machine.old.out.items) machine.old.units)
+        (marks machine.old.sets (reverse machine.old.pend)) (marks machine.old.sets machine.old.out.items) machine.old.units)
         (turn_weight machine.old turn.Level)) }
 {
     let Some(toks) = text else {
@@ -137,8 +138,8 @@ fn replace_object<'a>(
 ) -> Result<Turn<'a>, AllocError>
     requires known { KnownMachine machine.old }
     requires tok { tok.set < length machine.old.sets }
-    ensures { IfOk result (λ r. (d : List ℕ → Option Macro) → look d (mark machine.old.sets tok ∷ marks machine.old.sets (reverse machine.old.pend.items)) ≡ Object (mark machine.old.sets tok) def.now (marks machine.old.sets (reverse machine.old.pend.items))
-        → Turned d machine.new r (LevelEnds d machine.old (mark machine.old.sets tok ∷ marks machine.old.sets (reverse machine.old.pend.items))) (turn_weight machine.old turn.Level + 2)) }
+    ensures { IfOk result (λ r. (d : List ℕ → Option Macro) → look d (mark machine.old.sets tok ∷ marks machine.old.sets (reverse machine.old.pend)) ≡ Object (mark machine.old.sets tok) def.now (marks machine.old.sets (reverse machine.old.pend))
+        → Turned d machine.new r (LevelEnds d machine.old (mark machine.old.sets tok ∷ marks machine.old.sets (reverse machine.old.pend))) (turn_weight machine.old turn.Level + 2)) }
 {
     let parts = parts(alloc, false, &[], false, def.body.as_slice())?;
     let text = text(alloc, &mut machine.sets, parts.as_slice(), &[])?;
@@ -174,7 +175,7 @@ fn finish_call<'a>(
 /// Goes on behind the end of a level: with the call around it, or with nothing.
 fn close_level<'a>(alloc: Global, machine: &mut Machine<'a>) -> Result<Turn<'a>, AllocError>
     requires known { KnownMachine machine.old }
-    requires ended { machine.old.pend.items ≡ [] }
+    requires ended { machine.old.pend ≡ [] }
     ensures { IfOk result (λ r. (d : List ℕ → Option Macro) → Turned d machine.new r (LevelEnds d machine.old []) (turn_weight machine.old turn.Level)) }
 {
     let Some(call) = machine.opens.pop() else {
@@ -182,7 +183,7 @@ fn close_level<'a>(alloc: Global, machine: &mut Machine<'a>) -> Result<Turn<'a>,
     };
     let mut call = call;
     let full = mem::replace(&mut machine.out, Vec::new(alloc));
-    let written = mem::replace(&mut call.written, Vec::new(alloc));
+    let written = mem::replace(&mut call.written, Row::none());
     call.done.push(Given { written, full })?;
     Ok(Turn::Call(call))
 }
@@ -196,7 +197,7 @@ fn keep_arg<'a>(
 ) -> Result<Turn<'a>, AllocError>
     requires known { KnownMachine machine.old }
     requires call { KnownOpen machine.old.sets call }
-    requires arg { KnownAll machine.old.sets arg.written.items }
+    requires arg { KnownAll machine.old.sets arg.written }
     requires unwanted { arg.wanted ≡ false }
     ensures { IfOk result (λ r. (d : List ℕ → Option Macro) → Turned d machine.new r (CallUpTo d machine.old call.entry arg) (turn_weight machine.old (turn.Call call.entry) + 1)) }
 {
@@ -217,15 +218,14 @@ fn start_arg<'a>(
 ) -> Result<Turn<'a>, AllocError>
     requires known { KnownMachine machine.old }
     requires call { KnownOpen machine.old.sets call }
-    requires arg { KnownAll machine.old.sets arg.written.items × KnownAll machine.old.sets arg.raw.items }
+    requires arg { KnownAll machine.old.sets arg.written × KnownAll machine.old.sets arg.raw }
     requires wanted { arg.wanted ≡ true }
-    ensures { IfOk result (λ r. (d : List ℕ → Option Macro) → Turned d machine.new r (CallUpTo d machine.old call.entry arg) (turn_weight machine.old (turn.Call call.entry) + (2 * length arg.raw.items + 2))) }
+    ensures { IfOk result (λ r. (d : List ℕ → Option Macro) → Turned d machine.new r (CallUpTo d machine.old call.entry arg) (turn_weight machine.old (turn.Call call.entry) + (2 * length arg.raw + 2))) }
 {
     let mut call = call;
     call.written = arg.written;
     machine.opens.push(call)?;
-    machine.pend = arg.raw;
-    machine.pend.reverse();
+    machine.pend = Pending::of_row(alloc, arg.raw);
     machine.out = Vec::new(alloc);
     Ok(Turn::Level)
 }
@@ -249,7 +249,7 @@ fn open_call<'a>(
     requires tok { tok.set < length machine.old.sets }
     requires names { def.now.params ≡ Some names.now }
     ensures { IfOk result (λ r. (d : List ℕ → Option Macro) (bracket : Marked) → is_punct (codes "(") bracket.tok ≡ true → macro_at d (mark machine.old.sets tok) ≡ Some def.now
-        → Turned d machine.new r (LevelEnds d machine.old (mark machine.old.sets tok ∷ bracket ∷ marks machine.old.sets (reverse machine.old.pend.items))) (turn_weight machine.old turn.Level + 4)) }
+        → Turned d machine.new r (LevelEnds d machine.old (mark machine.old.sets tok ∷ bracket ∷ marks machine.old.sets (reverse machine.old.pend))) (turn_weight machine.old turn.Level + 4)) }
 {
     let variadic = def.variadic;
     let Some(taken) = take_call(alloc, &mut machine.pend, commas_of(names, variadic))? else {
@@ -260,7 +260,7 @@ fn open_call<'a>(
     };
     let parts = parts(alloc, true, names, variadic, def.body.as_slice())?;
     let todo = todos_of(alloc, parts.as_slice(), args)?;
-    let rest = mem::replace(&mut machine.pend, Vec::new(alloc));
+    let rest = mem::replace(&mut machine.pend, Pending::none(alloc));
     let out = mem::replace(&mut machine.out, Vec::new(alloc));
     Ok(Turn::Call(Open {
         name: tok,
@@ -269,7 +269,7 @@ fn open_call<'a>(
         last: taken.last,
         rest,
         out,
-        written: Vec::new(alloc),
+        written: Row::none(),
         todo,
         done: Vec::new(alloc),
     }))
@@ -287,9 +287,9 @@ fn call_or_put<'a>(
     requires tok { tok.set < length machine.old.sets }
     requires names { def.now.params ≡ Some names.now }
     ensures { IfOk result (λ r. (d : List ℕ → Option Macro) → macro_at d (mark machine.old.sets tok) ≡ Some def.now
-        → Turned d machine.new r (LevelEnds d machine.old (mark machine.old.sets tok ∷ marks machine.old.sets (reverse machine.old.pend.items))) (turn_weight machine.old turn.Level + 2)) }
+        → Turned d machine.new r (LevelEnds d machine.old (mark machine.old.sets tok ∷ marks machine.old.sets (reverse machine.old.pend))) (turn_weight machine.old turn.Level + 2)) }
 {
-    let Some(next) = machine.pend.pop() else {
+    let Some(next) = machine.pend.pop(alloc)? else {
         let turn = put(machine, tok)?;
         return Ok(turn);
     };
@@ -312,7 +312,7 @@ fn look_at<'a>(
     requires known { KnownMachine machine.old }
     requires tok { tok.set < length machine.old.sets }
     ensures { IfOk result (λ r. Turned (defs_of defs.now) machine.new r
-        (LevelEnds (defs_of defs.now) machine.old (mark machine.old.sets tok ∷ marks machine.old.sets (reverse machine.old.pend.items))) (turn_weight machine.old turn.Level + 2)) }
+        (LevelEnds (defs_of defs.now) machine.old (mark machine.old.sets tok ∷ marks machine.old.sets (reverse machine.old.pend))) (turn_weight machine.old turn.Level + 2)) }
 {
     let Some(def) = macro_at(defs, &machine.sets, &tok) else {
         let turn = put(machine, tok)?;
@@ -339,7 +339,7 @@ pub(crate) fn level<'a>(
     requires known { KnownMachine machine.old }
     ensures { IfOk result (λ r. Turned (defs_of defs.now) machine.new r (TurnUpTo (defs_of defs.now) machine.old turn.Level) (turn_weight machine.old turn.Level)) }
 {
-    let Some(tok) = machine.pend.pop() else {
+    let Some(tok) = machine.pend.pop(alloc)? else {
         let turn = close_level(alloc, machine)?;
         return Ok(turn);
     };

@@ -1,17 +1,18 @@
-use Rattle.std.proofs.Common.{refl}
-use Rattle.c_macro.proofs.CollectLaws.{collecting_starts, collecting_goes, collected_known}
+use Rattle.std.proofs.Common.{reverse}
+use Rattle.c_macro.proofs.CollectLaws.{not_closed}
+use Rattle.c_macro.proofs.TakeLaws.{called_is, called_known, called_size}
 use Rattle.c_macro.proofs.collect.take_call.Goals as goal
 
-pub loop-tok-init : goal.loop-tok-init
-loop-tok-init c = collecting_starts c.args.commas c.args.pend.now.items _ c.new.ensures.items c.new-2.ensures.items refl refl
+pub returns-in_default-clause-is : goal.returns-in_default-clause-is
+returns-in_default-clause-is c = λ s. not_closed s c.args.commas (reverse c.args.pend.now) (rw c.in_default.is at c.in_ok-enclosed.ensures)
 
-pub loop-tok-preserved : goal.loop-tok-preserved
-loop-tok-preserved c =
-    collecting_goes c.args.commas c.args.pend.now.items c.loop-tok.pend.items c.pop.new.self.items c.loop-tok.taking c.next.new.self c.in-Some.tok c.loop-tok.invariant c.in-Some.ensures.items
-    (rw c.in_default-2.is at c.in_ok-last.ensures.took) c.in_ok-last.ensures.deep
+pub returns-clause-is : goal.returns-clause-is
+returns-clause-is c = λ s. called_is s c.args.commas c.args.pend.now c.take_closed.new.self c.in-Some.enclosed c.in_ok-args.args.items (rw c.in-Some.is at c.in_ok-enclosed.ensures) (c.in_ok-args.ensures.is s)
 
-pub returns-in-Some-2-clause-known : goal.returns-in-Some-2-clause-known
-returns-in-Some-2-clause-known c = λ s h.
-    let k = collected_known c.args.commas c.args.pend.now.items c.loop-tok.pend.items c.pop.new.self.items c.loop-tok.taking c.next.new.self c.in-Some.tok c.in-Some-2.last s c.loop-tok.invariant c.in-Some.ensures.items
-    (rw c.in-Some-2.is at c.in_ok-last.ensures.took) h in
-    record { args = k.0; last = k.1; behind = k.2 }
+pub returns-clause-known : goal.returns-clause-known
+returns-clause-known c = λ s h.
+    let k = called_known s c.args.pend.now c.take_closed.new.self c.in-Some.enclosed (rw c.in-Some.is at c.in_ok-enclosed.ensures) h in
+    record { args = c.in_ok-args.ensures.known s k.0; last = k.1; behind = k.2 }
+
+pub returns-clause-size : goal.returns-clause-size
+returns-clause-size c = called_size c.args.pend.now c.take_closed.new.self c.in-Some.enclosed c.in_ok-args.args.items (rw c.in-Some.is at c.in_ok-enclosed.ensures) c.in_ok-args.ensures.size

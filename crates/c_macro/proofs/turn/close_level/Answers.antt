@@ -11,5 +11,5 @@ returns-in_default c = λ d.
 pub returns : goal.returns
 returns c = λ d.
     close_turned d c.args.machine.now _ c.pop.new.self.items c.in-Some.call _ _ c.requires.known c.requires.ended c.in-Some.ensures.items refl refl refl
-    (rw c.replace-full.ensures.after c.new.ensures.items) refl refl refl refl refl refl refl refl (rw c.replace-written.ensures.after c.new-2.ensures.items) c.in_ok-push.ensures.items
-    (ap (λ v. v.items) c.replace-written.ensures.value) (ap (λ v. v.items) c.replace-full.ensures.value)
+    (rw c.replace-full.ensures.after c.new.ensures.items) refl refl refl refl refl refl refl refl (rw c.replace-written.ensures.after c.none.ensures) c.in_ok-push.ensures.items
+    c.replace-written.ensures.value (ap (λ v. v.items) c.replace-full.ensures.value)

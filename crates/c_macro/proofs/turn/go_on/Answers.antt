@@ -31,8 +31,8 @@ pub returns-then-arg : goal.returns-then-arg
 returns-then-arg c =
     let g : Open = record c.args.call { todo = c.pop.new.self } in
     let p : Popped c.args.machine.now.sets c.args.call g c.in-Some.arg = popped c.args.machine.now.sets c.args.call g c.in-Some.arg c.requires.call c.in-Some.ensures.items refl refl refl refl refl refl refl refl in
-    let w : open_weight c.args.call ≡ open_weight g + (2 * length c.in-Some.arg.raw.items + 2) = p.weight in
-    popped_turned (defs_of c.args.defs.now) c.args.machine.now _ _ c.args.call g c.in-Some.arg (turn_weight c.args.machine.now (turn.Call g) + (2 * length c.in-Some.arg.raw.items + 2)) p (omega (arith, w)) (c.in_ok-turn-2.ensures (defs_of c.args.defs.now))
+    let w : open_weight c.args.call ≡ open_weight g + (2 * length c.in-Some.arg.raw + 2) = p.weight in
+    popped_turned (defs_of c.args.defs.now) c.args.machine.now _ _ c.args.call g c.in-Some.arg (turn_weight c.args.machine.now (turn.Call g) + (2 * length c.in-Some.arg.raw + 2)) p (omega (arith, w)) (c.in_ok-turn-2.ensures (defs_of c.args.defs.now))
 
 pub keep_arg-requires-clause-call : goal.keep_arg-requires-clause-call
 keep_arg-requires-clause-call c =
@@ -46,5 +46,5 @@ pub returns : goal.returns
 returns c =
     let g : Open = record c.args.call { todo = c.pop.new.self } in
     let p : Popped c.args.machine.now.sets c.args.call g c.in-Some.arg = popped c.args.machine.now.sets c.args.call g c.in-Some.arg c.requires.call c.in-Some.ensures.items refl refl refl refl refl refl refl refl in
-    let w : open_weight c.args.call ≡ open_weight g + (2 * length c.in-Some.arg.raw.items + 2) = p.weight in
+    let w : open_weight c.args.call ≡ open_weight g + (2 * length c.in-Some.arg.raw + 2) = p.weight in
     popped_turned (defs_of c.args.defs.now) c.args.machine.now _ _ c.args.call g c.in-Some.arg (turn_weight c.args.machine.now (turn.Call g) + 1) p (omega (arith, w)) (c.in_ok-turn-3.ensures (defs_of c.args.defs.now))

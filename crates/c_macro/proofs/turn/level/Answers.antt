@@ -1,4 +1,4 @@
-use Rattle.std.proofs.Common.{◌≡◌, [], ◌∷◌, refl, subst, rules}
+use Rattle.std.proofs.Common.{◌≡◌, [], ◌∷◌, refl, subst}
 use Rattle.c_macro.specs.Table.{defs_of}
 use Rattle.c_macro.specs.Pending.{KnownAll}
 use Rattle.c_macro.proofs.PendLaws.{known_front}
@@ -8,19 +8,19 @@ use Rattle.c_macro.proofs.turn.level.Goals as goal
 
 pub returns-in_default : goal.returns-in_default
 returns-in_default c =
-    let e : c.args.machine.now.pend.items ≡ [] = search rules in
-    let f : c.pop.new.self.items ≡ [] = search rules in
+    let e : c.args.machine.now.pend ≡ [] = (rw c.in_default.is at c.in_ok-tok.ensures).0 in
+    let f : c.pop.new.self ≡ [] = (rw c.in_default.is at c.in_ok-tok.ensures).1 in
     ended_turned (defs_of c.args.defs.now) c.args.machine.now (record c.args.machine.now { pend = c.pop.new.self }) _ _ (refl, refl, refl, refl) e f (c.in_ok-turn.ensures (defs_of c.args.defs.now))
 
 pub look_at-requires-clause-known : goal.look_at-requires-clause-known
 look_at-requires-clause-known c =
     let s = c.args.machine.now.sets in
     let k = c.requires.known in
-    record { pend = known_front s c.pop.new.self.items (c.in-Some.tok ∷ []) (subst (KnownAll s) c.in-Some.ensures.items k.pend); out = k.out; opens = k.opens; units = k.units }
+    record { pend = known_front s c.pop.new.self (c.in-Some.tok ∷ []) (subst (KnownAll s) (rw c.in-Some.is at c.in_ok-tok.ensures) k.pend); out = k.out; opens = k.opens; units = k.units }
 
 pub look_at-requires-clause-tok : goal.look_at-requires-clause-tok
-look_at-requires-clause-tok c = last_known c.args.machine.now.sets c.args.machine.now.pend.items c.pop.new.self.items c.in-Some.tok c.in-Some.ensures.items c.requires.known.pend
+look_at-requires-clause-tok c = last_known c.args.machine.now.sets c.args.machine.now.pend c.pop.new.self c.in-Some.tok (rw c.in-Some.is at c.in_ok-tok.ensures) c.requires.known.pend
 
 pub returns : goal.returns
 returns c =
-    level_turned (defs_of c.args.defs.now) c.args.machine.now (record c.args.machine.now { pend = c.pop.new.self }) _ _ c.in-Some.tok (refl, refl, refl, refl) c.in-Some.ensures.items c.in_ok-turn-2.ensures
+    level_turned (defs_of c.args.defs.now) c.args.machine.now (record c.args.machine.now { pend = c.pop.new.self }) _ _ c.in-Some.tok (refl, refl, refl, refl) (rw c.in-Some.is at c.in_ok-tok.ensures) c.in_ok-turn-2.ensures

@@ -13,7 +13,7 @@ pub place-requires-clause-toks : goal.place-requires-clause-toks
 place-requires-clause-toks c = known_grow c.args.machine.now.sets c.with.new.self c.in-Some.toks.items c.in_ok-bars.ensures.grown (rw c.in-Some.is at c.requires.text)
 
 pub place-requires-clause-pend : goal.place-requires-clause-pend
-place-requires-clause-pend c = known_grow c.args.machine.now.sets c.with.new.self c.args.machine.now.pend.items c.in_ok-bars.ensures.grown c.requires.known.pend
+place-requires-clause-pend c = known_grow c.args.machine.now.sets c.with.new.self c.args.machine.now.pend c.in_ok-bars.ensures.grown c.requires.known.pend
 
 pub returns : goal.returns
 returns c = λ d. rw c.in-Some.is
