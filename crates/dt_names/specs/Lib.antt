@@ -1,2 +1,13 @@
+pub mod Elems
 pub mod Facts
+pub mod Groups
+pub mod Ids
+pub mod Lengths
+pub mod Lists
+pub mod Names
 pub mod Pieces
+pub mod Places
+pub mod Rising
+pub mod Rows
+pub mod Standing
+pub mod Words

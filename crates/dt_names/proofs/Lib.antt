@@ -1,0 +1,5 @@
+pub mod Drops
+pub mod Lengths
+pub mod Places
+pub mod Spelling
+pub mod Told

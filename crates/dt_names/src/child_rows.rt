@@ -1,0 +1,75 @@
+//! The definitions of a node on its children.
+
+ghost use Rattle.std.specs.Prelude.{◌≡◌, ◌∷◌, [], MatchOption};
+ghost use Rattle.edt_base.specs.IndexData.{path_at};
+ghost use Rattle.dt_names.specs.Facts.{child_rows};
+
+use crate::child_place::okay_count;
+use crate::fact::{Fact, Queue};
+use crate::row::{At, Ending, Things};
+use crate::rows::{number, walks};
+use edt_base::{Bound, NodeId};
+use std::marker::Model;
+
+/// The definitions on a node's children that are left.
+#[derive(Drop)]
+pub(crate) struct ChildRows<'a> {
+    counts: Queue<'a>,
+    all: Queue<'a>,
+    okay: Queue<'a>,
+}
+
+impl<'a> Model for ChildRows<'a> {
+    ghost use Rattle.std.specs.Prelude.{List, ◌++◌};
+    ghost use Rattle.dt_names.specs.Facts.{FactData};
+
+    ghost Value = { List FactData };
+
+    ghost view = { λ s. s.counts ++ (s.all ++ s.okay) };
+}
+
+impl<'a> ChildRows<'a> {
+    /// Those of the node n.
+    pub(crate) fn new(bound: &'a Bound, n: u32, children: &'a [NodeId]) -> ChildRows<'a>
+        ensures { result ≡ child_rows bound.now.tree.nodes n (path_at bound.now.tree.nodes n) children.now }
+    {
+        let okay = okay_count(bound, children) as u128;
+        let count = children.len() as u128;
+        ChildRows {
+            counts: Queue::four(
+                bound,
+                Some(number(n, At::Itself, Ending::Mark("_CHILD_NUM"), count)),
+                Some(number(n, At::Itself, Ending::Mark("_CHILD_NUM_STATUS_OKAY"), okay)),
+                None,
+                None,
+            ),
+            all: walks(
+                bound,
+                n,
+                At::Itself,
+                "_FOREACH_CHILD",
+                Things::Ids(children),
+            ),
+            okay: walks(
+                bound,
+                n,
+                At::Itself,
+                "_FOREACH_CHILD_STATUS_OKAY",
+                Things::OkayIds(children),
+            ),
+        }
+    }
+
+    /// The next definition; None exactly after the last.
+    pub(crate) fn next(&mut self) -> Option<Fact<'a>>
+        ensures { MatchOption result ((self.old ≡ []) × (self.new ≡ [])) (λ x. self.old ≡ x ∷ self.new) }
+    {
+        if let Some(fact) = self.counts.next() {
+            return Some(fact);
+        }
+        if let Some(fact) = self.all.next() {
+            return Some(fact);
+        }
+        self.okay.next()
+    }
+}

@@ -1,0 +1,96 @@
+//! All definitions of a bound tree, in order.
+
+ghost use Rattle.std.specs.Prelude.{◌≡◌, ◌∷◌, [], MatchOption};
+ghost use Rattle.dt_names.specs.Facts.{each, facts, titled_node};
+
+use crate::child_place::node_from;
+use crate::fact::Fact;
+use crate::node_rows::{TitledNode, titled_node};
+use crate::tree_rows::TitledTree;
+use edt_base::Bound;
+use std::marker::Model;
+
+/// The definitions of all nodes that are left.
+#[derive(Drop)]
+struct NodesRows<'a> {
+    bound: &'a Bound,
+    node: Option<TitledNode<'a>>,
+    index: u32,
+}
+
+impl<'a> Model for NodesRows<'a> {
+    ghost use Rattle.std.specs.Prelude.{◌++◌, [], List, drop, unwrap_or};
+    ghost use Rattle.dt_names.specs.Facts.{FactData, each, titled_node};
+
+    ghost Value = { List FactData };
+
+    ghost view = { λ s. unwrap_or s.node [] ++ each (titled_node s.bound.now) s.index (drop s.index s.bound.now.tree.nodes) };
+}
+
+impl<'a> NodesRows<'a> {
+    fn new(bound: &'a Bound) -> NodesRows<'a>
+        ensures { result ≡ each (titled_node bound.now) 0 bound.now.tree.nodes }
+    {
+        NodesRows {
+            bound,
+            node: None,
+            index: 0,
+        }
+    }
+
+    fn next(&mut self) -> Option<Fact<'a>>
+        ensures { MatchOption result ((self.old ≡ []) × (self.new ≡ [])) (λ x. self.old ≡ x ∷ self.new) }
+    {
+        loop {
+            if let Some(node) = &mut self.node {
+                if let Some(fact) = node.next() {
+                    return Some(fact);
+                }
+            }
+            let Some(node) = node_from(self.bound, self.index) else {
+                return None;
+            };
+            self.node = titled_node(self.bound, self.index, node);
+            self.index += 1;
+        }
+    }
+}
+
+/// The definitions of a bound tree that are still to come, in the header's order: those of each node
+/// in preorder, then those of the tree. Contracts see the list of them. Takes no memory.
+#[derive(Drop)]
+pub struct Facts<'a> {
+    nodes: NodesRows<'a>,
+    tree: TitledTree<'a>,
+}
+
+impl<'a> Model for Facts<'a> {
+    ghost use Rattle.std.specs.Prelude.{◌++◌, List};
+    ghost use Rattle.dt_names.specs.Facts.{FactData};
+
+    ghost Value = { List FactData };
+
+    ghost view = { λ s. s.nodes ++ s.tree };
+}
+
+impl<'a> Facts<'a> {
+    /// All definitions of a bound tree.
+    pub fn new(b: &'a Bound) -> Facts<'a>
+        ensures { result ≡ facts b.now }
+    {
+        Facts {
+            nodes: NodesRows::new(b),
+            tree: TitledTree::new(b),
+        }
+    }
+
+    /// The next definition; None exactly after the last. Takes no memory.
+    pub fn next(&mut self) -> Option<Fact<'a>>
+        ensures { MatchOption result ((self.old ≡ []) × (self.new ≡ [])) (λ x. self.old ≡ x ∷ self.new) }
+    {
+        if let Some(fact) = self.nodes.next() {
+            return Some(fact);
+        }
+        self.tree.next()
+    }
+}

@@ -1,0 +1,141 @@
+//! All definitions of a node.
+
+ghost use Rattle.std.specs.Prelude.{◌≡◌, ◌∷◌, [], MatchOption, option_map, slice_get, unwrap_or};
+ghost use Rattle.edt_base.specs.IndexData.{path_at};
+ghost use Rattle.dt_names.specs.Facts.{node_facts, titled, titled_node};
+
+use crate::child_place::children;
+use crate::child_rows::ChildRows;
+use crate::fact::{Fact, Queue};
+use crate::irq_rows::ResourceRows;
+use crate::match_rows::MatchRows;
+use crate::place_rows::{order_rows, path_rows};
+use crate::prop_rows::PropsRows;
+use edt_base::{Bound, BoundNode, NodeRec, Prop};
+use std::marker::Model;
+
+/// The definitions of a node that are left.
+#[derive(Drop)]
+struct NodeRows<'a> {
+    path: Queue<'a>,
+    children: ChildRows<'a>,
+    order: Queue<'a>,
+    matches: MatchRows<'a>,
+    resources: ResourceRows<'a>,
+    props: PropsRows<'a>,
+}
+
+impl<'a> Model for NodeRows<'a> {
+    ghost use Rattle.std.specs.Prelude.{◌++◌, List};
+    ghost use Rattle.dt_names.specs.Facts.{FactData};
+
+    ghost Value = { List FactData };
+
+    ghost view = { λ s. s.path ++ (s.children ++ (s.order ++ (s.matches ++ (s.resources ++ s.props)))) };
+}
+
+impl<'a> NodeRows<'a> {
+    fn new(bound: &'a Bound, n: u32, node: &'a NodeRec, bind: &'a BoundNode) -> NodeRows<'a>
+        requires { path_at bound.now.tree.nodes n ≡ node.now.path }
+        ensures { result ≡ node_facts bound.now n node.now bind.now }
+    {
+        NodeRows {
+            path: path_rows(bound, n, node),
+            children: ChildRows::new(bound, n, children(node)),
+            order: order_rows(bound, n, bind),
+            matches: MatchRows::new(bound, n, node, bind),
+            resources: ResourceRows::new(bound, n, bind),
+            props: PropsRows::new(bound, n, props_of(bind)),
+        }
+    }
+
+    fn next(&mut self) -> Option<Fact<'a>>
+        ensures { MatchOption result ((self.old ≡ []) × (self.new ≡ [])) (λ x. self.old ≡ x ∷ self.new) }
+    {
+        if let Some(fact) = self.path.next() {
+            return Some(fact);
+        }
+        if let Some(fact) = self.children.next() {
+            return Some(fact);
+        }
+        if let Some(fact) = self.order.next() {
+            return Some(fact);
+        }
+        if let Some(fact) = self.matches.next() {
+            return Some(fact);
+        }
+        if let Some(fact) = self.resources.next() {
+            return Some(fact);
+        }
+        self.props.next()
+    }
+}
+
+/// The definitions of a node that are left, the first of which has the node's comment.
+#[derive(Drop)]
+pub(crate) struct TitledNode<'a> {
+    title: Option<&'a [u8]>,
+    rows: NodeRows<'a>,
+}
+
+impl<'a> Model for TitledNode<'a> {
+    ghost use Rattle.std.specs.Prelude.{List, option_map};
+    ghost use Rattle.dt_names.specs.Facts.{FactData};
+    ghost use Rattle.dt_names.specs.Rows.{titled_by};
+
+    ghost Value = { List FactData };
+
+    ghost view = { λ s. titled_by (option_map (λ t. t.now) s.title) s.rows };
+}
+
+impl<'a> TitledNode<'a> {
+    /// Those of the node n.
+    pub(crate) fn new(
+        bound: &'a Bound,
+        n: u32,
+        node: &'a NodeRec,
+        bind: &'a BoundNode,
+    ) -> TitledNode<'a>
+        requires { path_at bound.now.tree.nodes n ≡ node.now.path }
+        ensures { result ≡ titled node.now.path (node_facts bound.now n node.now bind.now) }
+    {
+        TitledNode {
+            title: Some(node.path.as_str().as_bytes()),
+            rows: NodeRows::new(bound, n, node, bind),
+        }
+    }
+
+    /// The next definition; None exactly after the last.
+    pub(crate) fn next(&mut self) -> Option<Fact<'a>>
+        ensures { MatchOption result ((self.old ≡ []) × (self.new ≡ [])) (λ x. self.old ≡ x ∷ self.new) }
+    {
+        let fact = self.rows.next()?;
+        let Some(title) = self.title else {
+            return Some(fact);
+        };
+        self.title = None;
+        Some(fact.titled(title))
+    }
+}
+
+fn props_of(bind: &BoundNode) -> &[Prop]
+    ensures { result.now ≡ bind.now.props }
+{
+    bind.props.as_slice()
+}
+
+/// The definitions of the node n with its comment.
+pub(crate) fn titled_node<'a>(bound: &'a Bound, n: u32, node: &'a NodeRec) -> Option<TitledNode<'a>>
+    requires { path_at bound.now.tree.nodes n ≡ node.now.path }
+    ensures { unwrap_or result [] ≡ titled_node bound.now n node.now }
+{
+    let bind = bind_at(bound, n)?;
+    Some(TitledNode::new(bound, n, node, bind))
+}
+
+// What is bound to the node at a place.
+fn bind_at(bound: &Bound, n: u32) -> Option<&BoundNode>
+    ensures { option_map (λ y. y.now) result ≡ slice_get bound.now.nodes n }
+{
+    bound.nodes.get(n as usize)
+}
