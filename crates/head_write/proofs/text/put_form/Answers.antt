@@ -1,0 +1,17 @@
+use Rattle.std.proofs.Common.{refl}
+use Rattle.edt_base.specs.Marks.{form_char, form_of}
+use Rattle.head_write.proofs.Runs.{one_more, one_fails}
+use Rattle.head_write.proofs.Puts.{not_done, failed}
+use Rattle.head_write.proofs.text.put_form.Goals as goal
+
+pub returns-in_err-put_form_char : goal.returns-in_err-put_form_char
+unfolding form_of
+returns-in_err-put_form_char g c =
+    not_done _ _ _ _ _ _ (failed c.from_residual.result c.from_residual.ensures.0)
+    (one_fails form_char _ _ 0 _ (g.S.Sink.seen c.args.out.now) (g.S.Sink.seen c.loop-byte.out) (g.S.Sink.seen c.put_form_char.new.out) _ _ _
+    c.loop-byte-test.true refl c.loop-byte.invariant c.in_err-put_form_char.ensures)
+
+pub loop-byte-preserved : goal.loop-byte-preserved
+loop-byte-preserved g c =
+    one_more form_char _ _ 0 _ (g.S.Sink.seen c.args.out.now) (g.S.Sink.seen c.loop-byte.out) (g.S.Sink.seen c.put_form_char.new.out) _ _ _
+    c.loop-byte-test.true refl c.loop-byte.invariant c.in_ok-put_form_char.ensures

@@ -1,0 +1,9 @@
+use Rattle.std.proofs.Common.{take, true}
+use Rattle.std.specs.List.{flat_map}
+use Rattle.edt_base.specs.Marks.{form_char}
+use Rattle.head_write.specs.Put.{Put}
+use Rattle.head_write.proofs.text.put_form.Given as goal
+
+abbrev pub invariant-loop-byte : goal.invariant-loop-byte
+invariant-loop-byte g l =
+    Put (g.S.Sink.seen l.initial.out) (g.S.Sink.seen l.out) l.initial.block l.block (flat_map form_char (take l.byte-index l.text)) true

@@ -1,0 +1,155 @@
+//! Headers of bound trees made by hand.
+
+ghost use Rattle.std.specs.Prelude.{◌≡◌, IfOk};
+
+use crate::block::{Block, flush};
+use crate::text::put_piece;
+use crate::{emit, emit_fact, measure};
+use dt_names::{Facts, Piece};
+use edt_base::{Bound, BoundNode, MemSink, NodeId, NodeRec, Reg, Text, Tree};
+use indexmap::IndexMap;
+use std::alloc::{AllocError, Global};
+use std::test::Fail;
+
+/// The header of a root alone, before and behind its registers.
+const FRONT: &str = "/* / */\n\
+#define DT_N_PATH \"/\"\n\
+#define DT_N_FULL_NAME \"/\"\n\
+#define DT_N_CHILD_NUM 0\n\
+#define DT_N_CHILD_NUM_STATUS_OKAY 0\n\
+#define DT_N_FOREACH_CHILD(fn)\n\
+#define DT_N_FOREACH_CHILD_SEP(fn, sep)\n\
+#define DT_N_FOREACH_CHILD_VARGS(fn, ...)\n\
+#define DT_N_FOREACH_CHILD_STATUS_OKAY(fn)\n\
+#define DT_N_FOREACH_CHILD_STATUS_OKAY_SEP(fn, sep)\n\
+#define DT_N_FOREACH_CHILD_STATUS_OKAY_VARGS(fn, ...)\n\
+#define DT_N_EXISTS 1\n\
+#define DT_N_ORD 0\n\
+#define DT_N_REQUIRES_ORDS\n\
+#define DT_N_SUPPORTS_ORDS\n\
+#define DT_N_STATUS_okay 1\n\
+";
+
+const BACK: &str = "#define DT_N_RANGES_NUM 0\n\
+#define DT_N_IRQ_NUM 0\n\
+/* tree */\n\
+#define DT_FOREACH_HELPER(fn) fn(DT_N)\n\
+#define DT_FOREACH_OKAY_HELPER(fn) fn(DT_N)\n\
+";
+
+const NO_REGISTERS: &str = "#define DT_N_REG_NUM 0\n";
+/// Two registers of one name and one address; the second lines by their name are doubles.
+const REGISTERS: &str = "#define DT_N_REG_NUM 2\n\
+#define DT_N_REG_IDX_0_EXISTS 1\n\
+#define DT_N_REG_IDX_0_VAL_ADDRESS 340282366920938463463374607431768211455\n\
+#define DT_N_REG_NAME_tx_fifo_EXISTS 1\n\
+#define DT_N_REG_NAME_tx_fifo_VAL_ADDRESS 340282366920938463463374607431768211455\n\
+#define DT_N_REG_IDX_1_EXISTS 1\n\
+#define DT_N_REG_IDX_1_VAL_ADDRESS 340282366920938463463374607431768211455\n\
+";
+/// Every byte as it stands in a string literal.
+const EVERY_BYTE: &str =
+    "\"\\000\\001\\002\\003\\004\\005\\006\\007\\010\\011\\012\\013\\014\\015\\016\\017\\020\\021\\022\\023\\024\\025\\026\\027\\030\\031\\032\\033\\034\\035\\036\\037 !\\\"#$%&'()*+,-./0123456789:;<=>?@ABCDEFGHIJKLMNOPQRSTUVWXYZ[\\\\]^_`abcdefghijklmnopqrstuvwxyz{|}~\\177\\200\\201\\202\\203\\204\\205\\206\\207\\210\\211\\212\\213\\214\\215\\216\\217\\220\\221\\222\\223\\224\\225\\226\\227\\230\\231\\232\\233\\234\\235\\236\\237\\240\\241\\242\\243\\244\\245\\246\\247\\250\\251\\252\\253\\254\\255\\256\\257\\260\\261\\262\\263\\264\\265\\266\\267\\270\\271\\272\\273\\274\\275\\276\\277\\300\\301\\302\\303\\304\\305\\306\\307\\310\\311\\312\\313\\314\\315\\316\\317\\320\\321\\322\\323\\324\\325\\326\\327\\330\\331\\332\\333\\334\\335\\336\\337\\340\\341\\342\\343\\344\\345\\346\\347\\350\\351\\352\\353\\354\\355\\356\\357\\360\\361\\362\\363\\364\\365\\366\\367\\370\\371\\372\\373\\374\\375\\376\\377\"";
+
+fn text(alloc: Global, of: &str) -> Result<Text, AllocError>
+    ensures { IfOk result (λ t. t ≡ of.now) }
+{
+    Ok(Text::new(String::from_str(alloc, of)?))
+}
+
+// The bound tree of a root alone with these registers.
+fn root_with(alloc: Global, regs: Vec<Reg>, doubles: Vec<u64>) -> Result<Bound, AllocError> {
+    let root = NodeRec {
+        name: text(alloc, "/")?,
+        path: text(alloc, "/")?,
+        parent: None,
+        children: Vec::new(alloc),
+        labels: Vec::new(alloc),
+        props: IndexMap::new(alloc),
+        compats: Vec::new(alloc),
+        status: text(alloc, "okay")?,
+    };
+    let nodes = vec![in alloc; root]?;
+    let tree = Tree::new(alloc, nodes, Vec::new(alloc), Vec::new(alloc))?;
+    tree.is_well_formed();
+    let bare = BoundNode {
+        props: Vec::new(alloc),
+        regs,
+        ranges: Vec::new(alloc),
+        irqs: Vec::new(alloc),
+        needs: Vec::new(alloc),
+        supports: Vec::new(alloc),
+        ord: 0,
+        bus: None,
+        buses: Vec::new(alloc),
+    };
+    let bound_nodes = vec![in alloc; bare]?;
+    let order = vec![in alloc; NodeId(0)]?;
+    Bound::new(alloc, tree, bound_nodes, order, Vec::new(alloc), doubles)
+}
+
+fn register(alloc: Global) -> Result<Reg, AllocError> {
+    Ok(Reg {
+        addr: Some(u128::MAX),
+        size: None,
+        name: Some(text(alloc, "tx-FIFO")?),
+    })
+}
+
+#[test]
+fn the_header_of_a_root_alone(rt: HostRuntime) -> Result<(), Fail> {
+    let alloc = rt.alloc();
+    let bound = root_with(alloc, Vec::new(alloc), Vec::new(alloc))?;
+    let header = [FRONT, NO_REGISTERS, BACK].concat(alloc)?;
+    assert_eq!(rt; measure(&bound), header.len() as u64);
+    // Each smaller room takes a front of it.
+    for room in 0..header.len() {
+        let mut short = MemSink::new(alloc, room as u64, 7, Vec::new(alloc))?;
+        assert!(rt; emit(&bound, &mut short).is_err());
+        assert_eq!(rt; short.bytes(), &header.as_bytes()[..room]);
+    }
+    let mut sink = MemSink::new(alloc, header.len() as u64, 7, Vec::new(alloc))?;
+    assert!(rt; emit(&bound, &mut sink).is_ok());
+    assert_eq!(rt; sink.bytes(), header.as_bytes());
+    Ok(())
+}
+
+#[test]
+fn doubles_are_left_out(rt: HostRuntime) -> Result<(), Fail> {
+    let alloc = rt.alloc();
+    let regs = vec![in alloc; register(alloc)?, register(alloc)?]?;
+    let bound = root_with(alloc, regs, vec![in alloc; 22, 23]?)?;
+    let header = [FRONT, REGISTERS, BACK].concat(alloc)?;
+    assert_eq!(rt; measure(&bound), header.len() as u64);
+    let mut sink = MemSink::new(alloc, 10_000, 4096, Vec::new(alloc))?;
+    assert!(rt; emit(&bound, &mut sink).is_ok());
+    assert_eq!(rt; sink.bytes(), header.as_bytes());
+    Ok(())
+}
+
+#[test]
+fn the_line_of_one_definition(rt: HostRuntime) -> Result<(), Fail> {
+    let alloc = rt.alloc();
+    let bound = root_with(alloc, Vec::new(alloc), Vec::new(alloc))?;
+    let mut sink = MemSink::new(alloc, 100, 100, Vec::new(alloc))?;
+    if let Some(fact) = Facts::new(&bound).next() {
+        assert!(rt; emit_fact(&fact, &mut sink).is_ok());
+    }
+    assert_eq!(rt; sink.bytes(), b"#define DT_N_PATH \"/\"\n".as_slice());
+    Ok(())
+}
+
+#[test]
+fn a_string_of_every_byte(rt: HostRuntime) -> Result<(), Fail> {
+    let alloc = rt.alloc();
+    let mut every = [0; 256];
+    for byte in 0..=255u8 {
+        every[byte as usize] = byte;
+    }
+    let mut sink = MemSink::new(alloc, 10_000, 4096, Vec::new(alloc))?;
+    let mut block = Block::new();
+    put_piece(&mut sink, &mut block, Piece::Str(&every))?;
+    flush(&mut sink, &mut block)?;
+    assert_eq!(rt; sink.bytes(), EVERY_BYTE.as_bytes());
+    Ok(())
+}

@@ -1,0 +1,120 @@
+//! Pieces of names and bodies as text.
+
+ghost use Rattle.std.specs.Prelude.{is_ok, ◌≡◌};
+ghost use Rattle.std.specs.List.{flat_map};
+ghost use Rattle.edt_base.specs.Marks.{form_byte, form_char, form_of};
+ghost use Rattle.dt_names.specs.Pieces.{escaped, quoted, spell, spells};
+ghost use Rattle.dt_names.specs.Words.{piece_of};
+ghost use Rattle.head_write.specs.Put.{Put};
+
+use crate::block::{Block, put, put_byte};
+use dt_names::{Piece, Pieces};
+use edt_base::{Sink, WriteFailed};
+use itoa::Buffer;
+
+/// Puts pieces, spelled one behind the other.
+pub(crate) fn put_pieces<S: Sink>(
+    out: &mut S,
+    block: &mut Block,
+    pieces: Pieces<'_>,
+) -> Result<(), WriteFailed>
+    ensures { Put (S.seen out.old) (S.seen out.new) block.old block.new (spells pieces.entry) (is_ok result) }
+{
+    let mut pieces = pieces;
+    while let Some(piece) = pieces.next() {
+        put_piece(out, block, piece)?;
+    }
+    Ok(())
+}
+
+#[inline(always)]
+/// Puts a piece as it is spelled.
+pub(crate) fn put_piece<S: Sink>(
+    out: &mut S,
+    block: &mut Block,
+    piece: Piece<'_>,
+) -> Result<(), WriteFailed>
+    ensures { Put (S.seen out.old) (S.seen out.new) block.old block.new (spell (piece_of piece.entry)) (is_ok result) }
+{
+    match piece {
+        Piece::Lit(text) => put(out, block, text.as_bytes()),
+        Piece::Form(text) => put_form(out, block, text),
+        Piece::Str(text) => put_quoted(out, block, text),
+        Piece::Num(n) => put(out, block, Buffer::new().format(n).as_bytes()),
+    }
+}
+
+#[tactic(auto, unfolding(edt_base::specs::Marks::form_of))]
+// Puts the form of a text.
+fn put_form<S: Sink>(out: &mut S, block: &mut Block, text: &[u8]) -> Result<(), WriteFailed>
+    ensures { Put (S.seen out.old) (S.seen out.new) block.old block.new (form_of text.now) (is_ok result) }
+{
+    for byte in text {
+        put_form_char(out, block, *byte)?;
+    }
+    Ok(())
+}
+
+#[inline(always)]
+// Puts what a byte gives to the form of its text.
+fn put_form_char<S: Sink>(out: &mut S, block: &mut Block, byte: u8) -> Result<(), WriteFailed>
+    ensures { Put (S.seen out.old) (S.seen out.new) block.old block.new (form_char byte) (is_ok result) }
+{
+    if byte < 128 {
+        put_byte(out, block, form_byte(byte))
+    } else if byte < 192 {
+        Ok(())
+    } else {
+        put_byte(out, block, b'_')
+    }
+}
+
+#[inline(always)]
+// The form of an ASCII character.
+fn form_byte(byte: u8) -> u8
+    ensures { result ≡ form_byte byte }
+{
+    match byte {
+        b'A'..=b'Z' => byte + 32,
+        b'a'..=b'z' | b'0'..=b'9' => byte,
+        _ => b'_',
+    }
+}
+
+// Puts a text as a string literal.
+fn put_quoted<S: Sink>(out: &mut S, block: &mut Block, text: &[u8]) -> Result<(), WriteFailed>
+    ensures { Put (S.seen out.old) (S.seen out.new) block.old block.new (quoted text.now) (is_ok result) }
+{
+    put_byte(out, block, b'"')?;
+    put_escaped(out, block, text)?;
+    put_byte(out, block, b'"')
+}
+
+// Puts a text as it stands between the quotes of a string literal.
+fn put_escaped<S: Sink>(out: &mut S, block: &mut Block, text: &[u8]) -> Result<(), WriteFailed>
+    ensures { Put (S.seen out.old) (S.seen out.new) block.old block.new (flat_map escaped text.now) (is_ok result) }
+{
+    for byte in text {
+        put_escaped_byte(out, block, *byte)?;
+    }
+    Ok(())
+}
+
+// Puts a byte as it stands in a string literal.
+fn put_escaped_byte<S: Sink>(out: &mut S, block: &mut Block, byte: u8) -> Result<(), WriteFailed>
+    ensures { Put (S.seen out.old) (S.seen out.new) block.old block.new (escaped byte) (is_ok result) }
+{
+    if byte == b'"' || byte == b'\\' {
+        put(out, block, &[b'\\', byte])
+    } else if 32 <= byte && byte <= 126 {
+        put_byte(out, block, byte)
+    } else {
+        let digits = [
+            b'\\',
+            b'0' + byte / 64,
+            b'0' + byte / 8 % 8,
+            b'0' + byte % 8,
+        ];
+        put(out, block, &digits)
+    }
+}
