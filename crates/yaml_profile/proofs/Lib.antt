@@ -10,6 +10,10 @@ pub mod WrittenOpen
 pub mod WrittenBlocks
 pub mod WrittenScalars
 pub mod WrittenParagraphs
+pub mod WrittenLeaves
 pub mod WrittenReads
+pub mod WrittenFiles
+pub mod WrittenPlaces
+pub mod WrittenEnds
 pub mod WrittenBytes
 pub mod YamlLaws

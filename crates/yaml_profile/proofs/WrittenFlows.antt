@@ -1,303 +1,450 @@
 -- How flow lists of written files are read.
-use Rattle.std.proofs.Common.{◌≡◌, ℕ, zero, suc, ◌+◌, ◌<◌, Bool, true, false, List, [], ◌∷◌, ◌++◌, length, Ok, refl, sym, ap, subst, ◌∙◌, arith, append_assoc}
-use Rattle.std.specs.Char.{encode_utf8, len_utf8}
-use Rattle.std.specs.Str.{encode_utf8_all}
+use Rattle.std.proofs.Common.{◌≡◌, ℕ, zero, suc, ◌+◌, ◌-◌, ◌<◌, ◌≤◌, Bool, true, false, ◌==◌, List, [], ◌∷◌, ◌++◌, length, Option, Some, None, Result, Ok, refl, sym, ap, subst, ◌∙◌, arith, append_assoc, inl, inr}
+use Rattle.std.specs.Char.{len_utf8}
+use Rattle.std.proofs.lemmas.Bool.{cases_Bool}
 use Rattle.edt_base.specs.YamlData.{Value, a_text, a_list, items_from}
+use Rattle.yaml_profile.specs.declared.stop.Broken.{Broken}
 use Rattle.yaml_profile.specs.declared.front.Role.{Role}
 use Rattle.yaml_profile.specs.declared.front.Role.TheVariants.{Value as ValueOnly}
 use Rattle.yaml_profile.specs.Scalars.{scalar_of}
-use Rattle.yaml_profile.specs.Folding.{nothing_yet}
-use Rattle.yaml_profile.specs.Fronts.{Frame, InFlow, Waiting, Whole, Innermost, AtLine, AtValue, InPlain, InDouble, AfterQuoted, AfterValue, InComment, Front, front}
-use Rattle.yaml_profile.specs.Pieces.{in_at_value, in_plain, in_after_quoted, in_after_value, after_item, end_flow, open_flow, begin_value, begin_sign}
-use Rattle.yaml_profile.specs.Reading.{taken, walk}
-use Rattle.yaml_profile.specs.Written.{spaces, Ending, Bare, Noted, spell_ending, IsEnding, IsApart, Plain, Double, Flow, Text, Empty, Listed, Trailed, Elements, One, Another, spell_flow, spell_elements, flow_value, element_values, IsFlow, AreElements, spell_inners, inner_text}
-use Rattle.yaml_profile.proofs.WrittenTexts.{past, past_append, goes, some_spaces, spaces_quoted, spaced_by, still, comment_goes, on_line, words_go, spaces_plain, behind_first, first_of, words_parts}
-use Rattle.yaml_profile.proofs.WrittenQuotes.{quoted_goes}
-use Rattle.yaml_profile.proofs.WrittenLines.{Reads, reads_behind, leaf_reads, BeginFacts, plain_value, quoted_value, first_facts, value_spaces}
-use Rattle.yaml_profile.proofs.WrittenKeys.{not_full}
+use Rattle.yaml_profile.specs.Folding.{Folding, nothing_yet}
+use Rattle.yaml_profile.specs.Fronts.{Frame, InFlow, Waiting, Fresh, Nothing as NothingYet, Going, Whole, Innermost, AtLine, AtValue, InPlain, AfterQuoted, AfterValue, InComment, Front, front, value_so_far, is_flow, is_deeper}
+use Rattle.yaml_profile.specs.Pieces.{in_at_value, in_plain, in_after_quoted, in_after_value, after_item, end_flow, open_flow, begin_value, begin_sign, is_key_only}
+use Rattle.yaml_profile.specs.Layout.{in_line, line_content, flow_line}
+use Rattle.yaml_profile.specs.Reading.{taken}
+use Rattle.yaml_profile.specs.Written.{spaces, Ending, Bare, Noted, spell_ending, spell_gaps, IsEnding, IsApart, AreGaps, with_chars, spell_furthers, line_ends, Plain, Double, Single, spell_plain, spell_scalar, spell_singles, Pad, Inline, Over, spell_pad, IsPad, place_behind, ends_before, Flow, Text, Empty, Listed, Trailed, Elements, One, Another, spell_flow, spell_elements, flow_value, element_values, IsFlow, AreElements, spell_inners, double_text, is_line_end, single_text, is_feed}
+use Rattle.yaml_profile.proofs.WrittenTexts.{lines_walk, past, past_append, goes, spaces_line, spaces_quoted, spaced_by, still, comment_goes, spaces_plain, spaces_text, After, after_char, after_spaces, after_ending}
+use Rattle.yaml_profile.proofs.WrittenQuotes.{role_then, value_then}
+use Rattle.yaml_profile.proofs.WrittenLines.{Reads, begin_run, begun, double_goes, singled_goes, Begun, begun_behind, plain_ends, quoted_ends, value_spaces}
+use Rattle.yaml_profile.proofs.WrittenKeys.{not_full, Starts, Started, sign_starts, plain_starts, started_by, value_taken, is_pending}
+use Rattle.yaml_profile.proofs.WrittenBlocks.{Kept, gaps_wait, Down, down}
+use Rattle.yaml_profile.proofs.WrittenParagraphs.{Plained, plain_goes, lines_after}
 
 -- behind these characters stands an item of a flow list
-pub record Ends (f : Front) (at : ℕ) (xs : List ℕ) (vs : List Value) (fs : List Frame) (v : Value) : Type 0 where
-  pub comma : (rest : List ℕ) → walk f at (xs ++ 44 ∷ rest) ≡ walk (front (InFlow (vs ++ v ∷ []) ∷ fs) (AtValue 0 false false)) (past at xs + 1) rest
-  pub bracket : (rest : List ℕ) → walk f at (xs ++ 93 ∷ rest) ≡ walk (front fs (AfterValue (Whole (a_list (items_from (vs ++ v ∷ [])))) false)) (past at xs + 1) rest
+pub record Ends (from : List ℕ → Result Front Broken) (at : ℕ) (xs : List ℕ) (vs : List Value) (fs : List Frame) (v : Value) : Type 0 where
+  pub comma : (rest : List ℕ) → from (xs ++ 44 ∷ rest) ≡ lines_walk (front (InFlow (vs ++ v ∷ []) ∷ fs) (AtValue 0 false false)) (past at xs + 1) rest
+  pub bracket : (rest : List ℕ) → from (xs ++ 93 ∷ rest) ≡ lines_walk (front fs (AfterValue (Whole (a_list (items_from (vs ++ v ∷ [])))) false)) (past at xs + 1) rest
 
--- three fronts behind an item take the comma and the bracket
-plain_comma : (vs : List Value) (fs : List Frame) (x b : List ℕ) (r : Role) (begun : ℕ) (sp : Bool) (at : ℕ) (rest : List ℕ)
-    → taken (InFlow vs ∷ fs) (InPlain (on_line x b) r begun sp) at 44 rest ≡ Ok (front (InFlow (vs ++ scalar_of x ∷ []) ∷ fs) (AtValue 0 false false))
+-- this front takes the comma and the bracket behind the item
+pub record Ready (i : Innermost) (at : ℕ) (vs : List Value) (fs : List Frame) (v : Value) : Type 0 where
+  pub comma : (rest : List ℕ) → taken (InFlow vs ∷ fs) i at 44 rest ≡ Ok (front (InFlow (vs ++ v ∷ []) ∷ fs) (AtValue 0 false false))
+  pub bracket : (rest : List ℕ) → taken (InFlow vs ∷ fs) i at 93 rest ≡ Ok (front fs (AfterValue (Whole (a_list (items_from (vs ++ v ∷ [])))) false))
+
+ends_ready : (f : Front) (i : Innermost) (at : ℕ) (xs : List ℕ) (vs : List Value) (fs : List Frame) (v : Value)
+    → ((rest : List ℕ) → lines_walk f at (xs ++ rest) ≡ lines_walk (front (InFlow vs ∷ fs) i) (past at xs) rest) → Ready i (past at xs) vs fs v → Ends (lines_walk f at) at xs vs fs v
+ends_ready f i at xs vs fs v run r = record {
+  comma = λ rest. run (44 ∷ rest) ∙ goes (InFlow vs ∷ fs) i (front (InFlow (vs ++ v ∷ []) ∷ fs) (AtValue 0 false false)) (past at xs) 44 rest refl (r.comma rest);
+  bracket = λ rest. run (93 ∷ rest) ∙ goes (InFlow vs ∷ fs) i (front fs (AfterValue (Whole (a_list (items_from (vs ++ v ∷ [])))) false)) (past at xs) 93 rest refl (r.bracket rest);
+}
+
+plain_ready : (vs : List Value) (fs : List Frame) (t : Folding) (r : Role) (begun : ℕ) (sp : Bool) (at : ℕ) → Ready (InPlain t r begun sp) at vs fs (scalar_of t.text)
 unfolding taken in_plain after_item
-plain_comma vs fs x b r begun sp at rest = refl
+plain_ready vs fs t r begun sp at = record { comma = λ rest. refl; bracket = λ rest. refl }
 
-plain_bracket : (vs : List Value) (fs : List Frame) (x b : List ℕ) (r : Role) (begun : ℕ) (sp : Bool) (at : ℕ) (rest : List ℕ)
-    → taken (InFlow vs ∷ fs) (InPlain (on_line x b) r begun sp) at 93 rest ≡ Ok (front fs (AfterValue (Whole (a_list (items_from (vs ++ scalar_of x ∷ [])))) false))
-unfolding taken in_plain after_item
-plain_bracket vs fs x b r begun sp at rest = refl
-
-quoted_comma : (vs : List Value) (fs : List Frame) (x : List ℕ) (begun : ℕ) (sp : Bool) (at : ℕ) (rest : List ℕ)
-    → taken (InFlow vs ∷ fs) (AfterQuoted x ValueOnly begun sp) at 44 rest ≡ Ok (front (InFlow (vs ++ a_text x ∷ []) ∷ fs) (AtValue 0 false false))
+quoted_ready : (vs : List Value) (fs : List Frame) (x : List ℕ) (r : Role) (begun : ℕ) (sp : Bool) (at : ℕ) → is_key_only r ≡ false → Ready (AfterQuoted x r begun sp) at vs fs (a_text x)
 unfolding taken in_after_quoted in_after_value after_item
-quoted_comma vs fs x begun sp at rest = refl
+quoted_ready vs fs x r begun sp at k = record { comma = λ rest. rw k refl; bracket = λ rest. rw k refl }
 
-quoted_bracket : (vs : List Value) (fs : List Frame) (x : List ℕ) (begun : ℕ) (sp : Bool) (at : ℕ) (rest : List ℕ)
-    → taken (InFlow vs ∷ fs) (AfterQuoted x ValueOnly begun sp) at 93 rest ≡ Ok (front fs (AfterValue (Whole (a_list (items_from (vs ++ a_text x ∷ [])))) false))
-unfolding taken in_after_quoted in_after_value after_item
-quoted_bracket vs fs x begun sp at rest = refl
-
-value_comma : (vs : List Value) (fs : List Frame) (v : Value) (sp : Bool) (at : ℕ) (rest : List ℕ)
-    → taken (InFlow vs ∷ fs) (AfterValue (Whole v) sp) at 44 rest ≡ Ok (front (InFlow (vs ++ v ∷ []) ∷ fs) (AtValue 0 false false))
+value_ready : (vs : List Value) (fs : List Frame) (v : Value) (sp : Bool) (at : ℕ) → Ready (AfterValue (Whole v) sp) at vs fs v
 unfolding taken in_after_value after_item
-value_comma vs fs v sp at rest = refl
+value_ready vs fs v sp at = record { comma = λ rest. refl; bracket = λ rest. refl }
 
-value_bracket : (vs : List Value) (fs : List Frame) (v : Value) (sp : Bool) (at : ℕ) (rest : List ℕ)
-    → taken (InFlow vs ∷ fs) (AfterValue (Whole v) sp) at 93 rest ≡ Ok (front fs (AfterValue (Whole (a_list (items_from (vs ++ v ∷ [])))) false))
-unfolding taken in_after_value after_item
-value_bracket vs fs v sp at rest = refl
+line_ready : (vs : List Value) (fs : List Frame) (w : Waiting) (s at : ℕ) → is_pending w ≡ false → Ready (AtLine s w) at vs fs (value_so_far w)
+unfolding taken in_line line_content flow_line in_plain after_item
+line_ready vs fs Fresh s at h = cc
+line_ready vs fs NothingYet s at h = cc
+line_ready vs fs (Going t) s at h = elim (cases_Bool (is_deeper (at - s) fs)) [
+  | inl d ↦ record { comma = λ rest. rw d refl; bracket = λ rest. rw d refl }
+  | inr d ↦ record { comma = λ rest. rw d refl; bracket = λ rest. rw d refl }
+]
+line_ready vs fs (Whole v) s at h = record { comma = λ rest. refl; bracket = λ rest. refl }
 
 space_after : (fs : List Frame) (w : Waiting) (sp : Bool) (at : ℕ) (rest : List ℕ) → taken fs (AfterValue w sp) at 32 rest ≡ Ok (front fs (AfterValue w true))
 unfolding taken in_after_value
 space_after fs w sp at rest = refl
 
 pub spaces_after : (n : ℕ) (fs : List Frame) (w : Waiting) (sp : Bool) (at : ℕ) (rest : List ℕ)
-    → walk (front fs (AfterValue w sp)) at (spaces n ++ rest) ≡ walk (front fs (AfterValue w (spaced_by sp n))) (past at (spaces n)) rest
+    → lines_walk (front fs (AfterValue w sp)) at (spaces n ++ rest) ≡ lines_walk (front fs (AfterValue w (spaced_by sp n))) (past at (spaces n)) rest
 spaces_after zero fs w sp at rest = refl
 spaces_after (suc n) fs w sp at rest =
     goes fs (AfterValue w sp) (front fs (AfterValue w true)) at 32 (spaces n ++ rest) refl (space_after fs w sp at (spaces n ++ rest))
-    ∙ (spaces_after n fs w true (at + 1) rest ∙ ap (λ (v : Bool). walk (front fs (AfterValue w v)) (past (at + 1) (spaces n)) rest) (still n))
+    ∙ (spaces_after n fs w true (at + 1) rest ∙ ap (λ (v : Bool). lines_walk (front fs (AfterValue w v)) (past (at + 1) (spaces n)) rest) (still n))
 
--- more characters before what ends an item
-ends_behind : (f g : Front) (at : ℕ) (xs ys : List ℕ) (vs : List Value) (fs : List Frame) (v : Value)
-    → ((rest : List ℕ) → walk f at (xs ++ rest) ≡ walk g (past at xs) rest) → Ends g (past at xs) ys vs fs v → Ends f at (xs ++ ys) vs fs v
-ends_behind f g at xs ys vs fs v step e = record {
-  comma = λ rest. ap (λ zs. walk f at zs) (append_assoc xs ys (44 ∷ rest)) ∙ (step (ys ++ 44 ∷ rest) ∙ (e.comma rest
-      ∙ ap (λ m. walk (front (InFlow (vs ++ v ∷ []) ∷ fs) (AtValue 0 false false)) (m + 1) rest) (sym (past_append xs ys at))));
-  bracket = λ rest. ap (λ zs. walk f at zs) (append_assoc xs ys (93 ∷ rest)) ∙ (step (ys ++ 93 ∷ rest) ∙ (e.bracket rest
-      ∙ ap (λ m. walk (front fs (AfterValue (Whole (a_list (items_from (vs ++ v ∷ [])))) false)) (m + 1) rest) (sym (past_append xs ys at))));
-}
+after_feed : (fs : List Frame) (w : Waiting) (sp : Bool) (at : ℕ) (rest : List ℕ) → taken fs (AfterValue w sp) at 10 rest ≡ Ok (front fs (AtLine (at + 1) w))
+unfolding taken in_after_value
+after_feed fs w sp at rest = refl
 
-plain_ends : (n : ℕ) (vs : List Value) (fs : List Frame) (x : List ℕ) (r : Role) (begun at : ℕ) → Ends (front (InFlow vs ∷ fs) (InPlain (on_line x []) r begun false)) at (spaces n) vs fs (scalar_of x)
-plain_ends n vs fs x r begun at =
-    let gs : List Frame = InFlow vs ∷ fs in
-    let p : ℕ = past at (spaces n) in
-    let i : Innermost = InPlain (on_line x (spaces n)) r begun (spaced_by false n) in
+after_hash : (fs : List Frame) (w : Waiting) (at : ℕ) (rest : List ℕ) → taken fs (AfterValue w true) at 35 rest ≡ Ok (front fs (InComment w))
+unfolding taken in_after_value
+after_hash fs w at rest = refl
+
+pub after_ends : (e : Ending) (fs : List Frame) (w : Waiting) (at : ℕ) (rest : List ℕ) → IsEnding e → IsApart e
+    → lines_walk (front fs (AfterValue w false)) at (spell_ending e ++ rest) ≡ lines_walk (front fs (AtLine (past at (spell_ending e)) w)) (past at (spell_ending e)) rest
+after_ends (Bare n) fs w at rest h a =
+    ap (λ zs. lines_walk (front fs (AfterValue w false)) at zs) (append_assoc (spaces n) (10 ∷ []) rest)
+    ∙ (spaces_after n fs w false at (10 ∷ rest)
+    ∙ (goes fs (AfterValue w (spaced_by false n)) (front fs (AtLine (past at (spaces n) + 1) w)) (past at (spaces n)) 10 rest refl (after_feed fs w (spaced_by false n) (past at (spaces n)) rest)
+    ∙ ap (λ p. lines_walk (front fs (AtLine p w)) p rest) (sym (past_append (spaces n) (10 ∷ []) at))))
+after_ends (Noted zero text) fs w at rest h a = absurd (omega arith)
+after_ends (Noted (suc n) text) fs w at rest h a =
+    let p : ℕ = past at (spaces (suc n)) in
+    let t : List ℕ = text ++ 10 ∷ [] in
+    ap (λ zs. lines_walk (front fs (AfterValue w false)) at zs) (append_assoc (spaces (suc n)) (35 ∷ t) rest)
+    ∙ (spaces_after (suc n) fs w false at (35 ∷ (t ++ rest))
+    ∙ (goes fs (AfterValue w true) (front fs (InComment w)) p 35 (t ++ rest) refl (after_hash fs w p (t ++ rest))
+    ∙ (comment_goes text fs w (p + len_utf8 35) rest h
+    ∙ ap (λ q. lines_walk (front fs (AtLine q w)) q rest) (sym (past_append (spaces (suc n)) (35 ∷ t) at)))))
+
+value_line : (e : Ending) (fs : List Frame) (v : Value) (at : ℕ) → IsEnding e → IsApart e → Reads (front fs (AfterValue (Whole v) false)) at (spell_ending e) fs v
+value_line e fs v at h a = record { wait = Whole v; is = refl; run = λ rest. after_ends e fs (Whole v) at rest h a }
+
+comma_after : (rest : List ℕ) → After false (44 ∷ rest)
+comma_after rest = after_char 44 rest false refl refl refl refl
+
+bracket_after : (rest : List ℕ) → After false (93 ∷ rest)
+bracket_after rest = after_char 93 rest false refl refl refl refl
+
+pad_after : (q : Pad) (rest : List ℕ) → IsPad q → After false rest → After (ends_before q) (spell_pad q ++ rest)
+pad_after (Inline zero) rest h a = a
+pad_after (Inline (suc n)) rest h a = after_spaces n rest
+pad_after (Over e gaps n) rest h a =
+    let ys : List ℕ = spell_gaps gaps ++ spaces n in
+    subst (λ zs. After true zs) (sym (append_assoc (spell_ending e) ys rest)) (after_ending e (ys ++ rest) h.1)
+
+-- an item, before what ends it
+ends_behind : (from : List ℕ → Result Front Broken) (g : Front) (at : ℕ) (xs : List ℕ) (q : Pad) (vs : List Value) (fs : List Frame) (v : Value) → IsPad q
+    → ((rest : List ℕ) → After (ends_before q) rest → from (xs ++ rest) ≡ lines_walk g (past at xs) rest) → Ends (lines_walk g (past at xs)) (past at xs) (spell_pad q) vs fs v → Ends from at (xs ++ spell_pad q) vs fs v
+ends_behind from g at xs q vs fs v h step e =
+    let ys : List ℕ = spell_pad q in
     record {
-      comma = λ rest. spaces_plain n gs x [] r begun false at (44 ∷ rest)
-          ∙ goes gs i (front (InFlow (vs ++ scalar_of x ∷ []) ∷ fs) (AtValue 0 false false)) p 44 rest refl (plain_comma vs fs x (spaces n) r begun (spaced_by false n) p rest);
-      bracket = λ rest. spaces_plain n gs x [] r begun false at (93 ∷ rest)
-          ∙ goes gs i (front fs (AfterValue (Whole (a_list (items_from (vs ++ scalar_of x ∷ [])))) false)) p 93 rest refl (plain_bracket vs fs x (spaces n) r begun (spaced_by false n) p rest);
+      comma = λ rest. ap from (append_assoc xs ys (44 ∷ rest)) ∙ (step (ys ++ 44 ∷ rest) (pad_after q (44 ∷ rest) h (comma_after rest)) ∙ (e.comma rest
+          ∙ ap (λ m. lines_walk (front (InFlow (vs ++ v ∷ []) ∷ fs) (AtValue 0 false false)) (m + 1) rest) (sym (past_append xs ys at))));
+      bracket = λ rest. ap from (append_assoc xs ys (93 ∷ rest)) ∙ (step (ys ++ 93 ∷ rest) (pad_after q (93 ∷ rest) h (bracket_after rest)) ∙ (e.bracket rest
+          ∙ ap (λ m. lines_walk (front fs (AfterValue (Whole (a_list (items_from (vs ++ v ∷ [])))) false)) (m + 1) rest) (sym (past_append xs ys at))));
     }
 
-quoted_ends : (n : ℕ) (vs : List Value) (fs : List Frame) (x : List ℕ) (begun at : ℕ) → Ends (front (InFlow vs ∷ fs) (AfterQuoted x ValueOnly begun false)) at (spaces n) vs fs (a_text x)
-quoted_ends n vs fs x begun at =
+-- an item ended by the end of its line
+over_ends : (f : Front) (e : Ending) (gaps : List Ending) (n at : ℕ) (vs : List Value) (fs : List Frame) (v : Value) → (r : Reads f at (spell_ending e) (InFlow vs ∷ fs) v) → is_pending r.wait ≡ false → AreGaps gaps
+    → Ends (lines_walk f at) at (spell_pad (Over e gaps n)) vs fs v
+over_ends f e gaps n at vs fs v r done g =
     let gs : List Frame = InFlow vs ∷ fs in
-    let p : ℕ = past at (spaces n) in
-    let i : Innermost = AfterQuoted x ValueOnly begun (spaced_by false n) in
-    record {
-      comma = λ rest. spaces_quoted n gs x ValueOnly begun false at (44 ∷ rest)
-          ∙ goes gs i (front (InFlow (vs ++ a_text x ∷ []) ∷ fs) (AtValue 0 false false)) p 44 rest refl (quoted_comma vs fs x begun (spaced_by false n) p rest);
-      bracket = λ rest. spaces_quoted n gs x ValueOnly begun false at (93 ∷ rest)
-          ∙ goes gs i (front fs (AfterValue (Whole (a_list (items_from (vs ++ a_text x ∷ [])))) false)) p 93 rest refl (quoted_bracket vs fs x begun (spaced_by false n) p rest);
-    }
+    let xs : List ℕ = spell_ending e in
+    let ys : List ℕ = spell_gaps gaps in
+    let zs : List ℕ = spaces n in
+    let p : ℕ = past at xs in
+    let q : ℕ = past p ys in
+    let k : Kept r.wait gaps gs p p = gaps_wait gaps gs p r.wait p refl g in
+    let i : Innermost = AtLine q k.wait in
+    let P : Value → Type 0 = λ u. Ready i (past at (xs ++ (ys ++ zs))) vs fs u in
+    ends_ready f i at (xs ++ (ys ++ zs)) vs fs v
+    (λ rest. ap (λ us. lines_walk f at us) (append_assoc xs (ys ++ zs) rest)
+    ∙ (r.run ((ys ++ zs) ++ rest)
+    ∙ (ap (λ us. lines_walk (front gs (AtLine p r.wait)) p us) (append_assoc ys zs rest)
+    ∙ (k.run (zs ++ rest)
+    ∙ (spaces_line n gs q k.wait q rest ∙ ap (λ m. lines_walk (front gs i) m rest) (sym (past_append xs (ys ++ zs) at ∙ past_append ys zs p)))))))
+    (subst P (k.value ∙ r.is) (line_ready vs fs k.wait q (past at (xs ++ (ys ++ zs))) (k.pending ∙ done)))
 
-value_ends : (n : ℕ) (vs : List Value) (fs : List Frame) (v : Value) (at : ℕ) → Ends (front (InFlow vs ∷ fs) (AfterValue (Whole v) false)) at (spaces n) vs fs v
-value_ends n vs fs v at =
+plain_done : (e : Ending) (fs : List Frame) (t : Folding) (r : Role) (begun : ℕ) (sp : Bool) (at : ℕ) (k : is_key_only r ≡ false) (h : IsEnding e) (a : IsApart e) → is_pending (plain_ends e fs t r begun sp at k h a).wait ≡ false
+unfolding plain_ends
+plain_done (Bare n) fs t r begun sp at k h a = refl
+plain_done (Noted zero text) fs t r begun sp at k h a = absurd (omega arith)
+plain_done (Noted (suc n) text) fs t r begun sp at k h a = refl
+
+quoted_done : (e : Ending) (fs : List Frame) (x : List ℕ) (r : Role) (begun at : ℕ) (k : is_key_only r ≡ false) (h : IsEnding e) (a : IsApart e) → is_pending (quoted_ends e fs x r begun at k h a).wait ≡ false
+unfolding quoted_ends
+quoted_done (Bare n) fs x r begun at k h a = refl
+quoted_done (Noted zero text) fs x r begun at k h a = absurd (omega arith)
+quoted_done (Noted (suc n) text) fs x r begun at k h a = refl
+
+plain_pad : (q : Pad) (vs : List Value) (fs : List Frame) (t : Folding) (r : Role) (begun : ℕ) (sp : Bool) (at : ℕ) → is_key_only r ≡ false → IsPad q → Ends (lines_walk (front (InFlow vs ∷ fs) (InPlain t r begun sp)) at) at (spell_pad q) vs fs (scalar_of t.text)
+plain_pad (Inline n) vs fs t r begun sp at k h =
     let gs : List Frame = InFlow vs ∷ fs in
-    let p : ℕ = past at (spaces n) in
+    let u : Folding = with_chars t (spaces n) in
+    let i : Innermost = InPlain u r begun (spaced_by sp n) in
+    let P : List ℕ → Type 0 = λ x. Ready i (past at (spaces n)) vs fs (scalar_of x) in
+    ends_ready (front gs (InPlain t r begun sp)) i at (spaces n) vs fs (scalar_of t.text) (λ rest. spaces_plain n gs t r begun sp at rest)
+    (subst P (spaces_text n t) (plain_ready vs fs u r begun (spaced_by sp n) (past at (spaces n))))
+plain_pad (Over e gaps n) vs fs t r begun sp at k h =
+    let gs : List Frame = InFlow vs ∷ fs in
+    over_ends (front gs (InPlain t r begun sp)) e gaps n at vs fs (scalar_of t.text) (plain_ends e gs t r begun sp at k h.0 h.1) (plain_done e gs t r begun sp at k h.0 h.1) h.2
+
+quoted_pad : (q : Pad) (vs : List Value) (fs : List Frame) (x : List ℕ) (r : Role) (begun at : ℕ) → is_key_only r ≡ false → IsPad q → Ends (lines_walk (front (InFlow vs ∷ fs) (AfterQuoted x r begun false)) at) at (spell_pad q) vs fs (a_text x)
+quoted_pad (Inline n) vs fs x r begun at k h =
+    let gs : List Frame = InFlow vs ∷ fs in
+    let i : Innermost = AfterQuoted x r begun (spaced_by false n) in
+    ends_ready (front gs (AfterQuoted x r begun false)) i at (spaces n) vs fs (a_text x) (λ rest. spaces_quoted n gs x r begun false at rest) (quoted_ready vs fs x r begun (spaced_by false n) (past at (spaces n)) k)
+quoted_pad (Over e gaps n) vs fs x r begun at k h =
+    let gs : List Frame = InFlow vs ∷ fs in
+    over_ends (front gs (AfterQuoted x r begun false)) e gaps n at vs fs (a_text x) (quoted_ends e gs x r begun at k h.0 h.1) (quoted_done e gs x r begun at k h.0 h.1) h.2
+
+value_pad : (q : Pad) (vs : List Value) (fs : List Frame) (v : Value) (at : ℕ) → IsPad q → Ends (lines_walk (front (InFlow vs ∷ fs) (AfterValue (Whole v) false)) at) at (spell_pad q) vs fs v
+unfolding value_line
+value_pad (Inline n) vs fs v at h =
+    let gs : List Frame = InFlow vs ∷ fs in
     let i : Innermost = AfterValue (Whole v) (spaced_by false n) in
-    record {
-      comma = λ rest. spaces_after n gs (Whole v) false at (44 ∷ rest)
-          ∙ goes gs i (front (InFlow (vs ++ v ∷ []) ∷ fs) (AtValue 0 false false)) p 44 rest refl (value_comma vs fs v (spaced_by false n) p rest);
-      bracket = λ rest. spaces_after n gs (Whole v) false at (93 ∷ rest)
-          ∙ goes gs i (front fs (AfterValue (Whole (a_list (items_from (vs ++ v ∷ [])))) false)) p 93 rest refl (value_bracket vs fs v (spaced_by false n) p rest);
-    }
+    ends_ready (front gs (AfterValue (Whole v) false)) i at (spaces n) vs fs v (λ rest. spaces_after n gs (Whole v) false at rest) (value_ready vs fs v (spaced_by false n) (past at (spaces n)))
+value_pad (Over e gaps n) vs fs v at h =
+    let gs : List Frame = InFlow vs ∷ fs in
+    over_ends (front gs (AfterValue (Whole v) false)) e gaps n at vs fs v (value_line e gs v at h.0 h.1) refl h.2
 
 -- ---- lists
 
-bracket_opens : (fs : List Frame) (s : ℕ) (m sp : Bool) (at level : ℕ) (rest : List ℕ) → length fs ≡ level → level < 32
-    → taken fs (AtValue s m sp) at 91 rest ≡ Ok (front (InFlow [] ∷ fs) (AtValue 0 false false))
-unfolding taken in_at_value begin_value begin_sign open_flow
-bracket_opens fs s true sp at level rest e h = rw (not_full fs level e h) refl
-bracket_opens fs s false sp at level rest e h = rw (not_full fs level e h) refl
+bracket_opens : (fs : List Frame) (role : Role) (at level : ℕ) (rest : List ℕ) → is_key_only role ≡ false → length fs ≡ level → level < 32
+    → begin_value fs role at 91 rest ≡ Ok (front (InFlow [] ∷ fs) (AtValue 0 false false))
+unfolding begin_value begin_sign open_flow
+bracket_opens fs role at level rest k e h = rw (k, not_full fs level e h) refl
 
-bracket_closes : (vs : List Value) (fs : List Frame) (s : ℕ) (sp : Bool) (at : ℕ) (rest : List ℕ)
-    → taken (InFlow vs ∷ fs) (AtValue s false sp) at 93 rest ≡ Ok (front fs (AfterValue (Whole (a_list (items_from vs))) false))
+-- before an item or the closing bracket
+record Padded (p : Pad) (vs : List Value) (fs : List Frame) (at : ℕ) : Type 0 where
+  inner : Innermost
+  begins : (c : ℕ) (rest : List ℕ) → Starts (place_behind p) true c rest → taken (InFlow vs ∷ fs) inner (past at (spell_pad p)) c rest ≡ begin_value (InFlow vs ∷ fs) ValueOnly (past at (spell_pad p)) c rest
+  closes : (rest : List ℕ) → taken (InFlow vs ∷ fs) inner (past at (spell_pad p)) 93 rest ≡ Ok (front fs (AfterValue (Whole (a_list (items_from vs))) false))
+  run : (rest : List ℕ) → lines_walk (front (InFlow vs ∷ fs) (AtValue 0 false false)) at (spell_pad p ++ rest) ≡ lines_walk (front (InFlow vs ∷ fs) inner) (past at (spell_pad p)) rest
+
+value_closes : (vs : List Value) (fs : List Frame) (s : ℕ) (sp : Bool) (at : ℕ) (rest : List ℕ) → taken (InFlow vs ∷ fs) (AtValue s false sp) at 93 rest ≡ Ok (front fs (AfterValue (Whole (a_list (items_from vs))) false))
 unfolding taken in_at_value end_flow
-bracket_closes vs fs s sp at rest = refl
+value_closes vs fs s sp at rest = refl
+
+line_closes : (vs : List Value) (fs : List Frame) (s : ℕ) (w : Waiting) (at : ℕ) (rest : List ℕ) → is_pending w ≡ true → taken (InFlow vs ∷ fs) (AtLine s w) at 93 rest ≡ Ok (front fs (AfterValue (Whole (a_list (items_from vs))) false))
+unfolding taken in_line line_content flow_line end_flow
+line_closes vs fs s Fresh at rest h = refl
+line_closes vs fs s NothingYet at rest h = refl
+line_closes vs fs s (Going t) at rest h = cc
+line_closes vs fs s (Whole v) at rest h = cc
+
+line_begins : (vs : List Value) (fs : List Frame) (s : ℕ) (w : Waiting) (at n c : ℕ) (rest : List ℕ) → is_pending w ≡ true → Starts (Some n) true c rest → taken (InFlow vs ∷ fs) (AtLine s w) at c rest ≡ begin_value (InFlow vs ∷ fs) ValueOnly at c rest
+unfolding taken in_line line_content flow_line
+line_begins vs fs s Fresh at n c rest h g = rw (g.space, g.feed, g.tab n refl, g.hash, g.right) refl
+line_begins vs fs s NothingYet at n c rest h g = rw (g.space, g.feed, g.tab n refl, g.hash, g.right) refl
+line_begins vs fs s (Going t) at n c rest h g = cc
+line_begins vs fs s (Whole v) at n c rest h g = cc
+
+padded : (p : Pad) (vs : List Value) (fs : List Frame) (at : ℕ) → IsPad p → Padded p vs fs at
+padded (Inline n) vs fs at h =
+    let gs : List Frame = InFlow vs ∷ fs in
+    let q : ℕ = past at (spaces n) in
+    record {
+      inner = AtValue 0 false (spaced_by false n);
+      begins = λ c rest g. value_taken None true gs 0 false (spaced_by false n) q c rest g;
+      closes = λ rest. value_closes vs fs 0 (spaced_by false n) q rest;
+      run = λ rest. value_spaces n gs 0 false false at rest;
+    }
+padded (Over e gaps n) vs fs at h =
+    let gs : List Frame = InFlow vs ∷ fs in
+    let xs : List ℕ = spell_ending e in
+    let ys : List ℕ = spell_gaps gaps in
+    let d : Down gs 0 false false at (xs ++ ys) = down e gaps gs 0 false false at h.0 h.1 h.2 in
+    let p : ℕ = past at (xs ++ ys) in
+    let all : List ℕ = xs ++ (ys ++ spaces n) in
+    let same : past p (spaces n) ≡ past at all = sym (past_append (xs ++ ys) (spaces n) at) ∙ ap (λ zs. past at zs) (append_assoc xs ys (spaces n)) in
+    record {
+      inner = AtLine p d.wait;
+      begins = λ c rest g. line_begins vs fs p d.wait (past at all) n c rest d.pending g;
+      closes = λ rest. line_closes vs fs p d.wait (past at all) rest d.pending;
+      run = λ rest. ap (λ zs. lines_walk (front gs (AtValue 0 false false)) at zs) (ap (λ zs. zs ++ rest) (sym (append_assoc xs ys (spaces n))) ∙ append_assoc (xs ++ ys) (spaces n) rest)
+          ∙ (d.run (spaces n ++ rest) ∙ (spaces_line n gs p d.wait p rest ∙ ap (λ m. lines_walk (front gs (AtLine p d.wait)) m rest) same));
+    }
 
 -- a flow list is read
-pub record Closes (f : Front) (at : ℕ) (xs : List ℕ) (fs : List Frame) (v : Value) : Type 0 where
-  pub run : (rest : List ℕ) → walk f at (xs ++ rest) ≡ walk (front fs (AfterValue (Whole v) false)) (past at xs) rest
+pub record Closes (fs : List Frame) (role : Role) (at : ℕ) (xs : List ℕ) (v : Value) : Type 0 where
+  pub run : (rest : List ℕ) → begin_run fs role at (xs ++ rest) ≡ lines_walk (front fs (AfterValue (Whole v) false)) (past at xs) rest
 
 abbrev before_last : Elements → List Value
-before_last (One n x m) = []
-before_last (Another es n x m) = element_values es
+before_last (One p x q) = []
+before_last (Another es p x q) = element_values es
 
 abbrev last_element : Elements → Value
-last_element (One n x m) = flow_value x
-last_element (Another es n x m) = flow_value x
+last_element (One p x q) = flow_value x
+last_element (Another es p x q) = flow_value x
 
 elements_parts : (es : Elements) → before_last es ++ last_element es ∷ [] ≡ element_values es
-elements_parts (One n x m) = refl
-elements_parts (Another es n x m) = refl
+elements_parts (One p x q) = refl
+elements_parts (Another es p x q) = refl
 
 -- a list as an item
-list_ends : (x : Flow) (m : ℕ) (vs : List Value) (fs : List Frame) (sp : Bool) (at : ℕ) → Closes (front (InFlow vs ∷ fs) (AtValue 0 false sp)) at (spell_flow x) (InFlow vs ∷ fs) (flow_value x)
-    → Ends (front (InFlow vs ∷ fs) (AtValue 0 false sp)) at (spell_flow x ++ spaces m) vs fs (flow_value x)
-list_ends x m vs fs sp at c =
+list_ends : (x : Flow) (q : Pad) (vs : List Value) (fs : List Frame) (at : ℕ) → IsPad q → Closes (InFlow vs ∷ fs) ValueOnly at (spell_flow x) (flow_value x)
+    → Ends (begin_run (InFlow vs ∷ fs) ValueOnly at) at (spell_flow x ++ spell_pad q) vs fs (flow_value x)
+list_ends x q vs fs at h c =
     let gs : List Frame = InFlow vs ∷ fs in
-    ends_behind (front gs (AtValue 0 false sp)) (front gs (AfterValue (Whole (flow_value x)) false)) at (spell_flow x) (spaces m) vs fs (flow_value x) c.run
-    (value_ends m vs fs (flow_value x) (past at (spell_flow x)))
+    ends_behind (begin_run gs ValueOnly at) (front gs (AfterValue (Whole (flow_value x)) false)) at (spell_flow x) q vs fs (flow_value x) h (λ rest a. c.run rest) (value_pad q vs fs (flow_value x) (past at (spell_flow x)) h)
 
-pub empty_closes : (n : ℕ) (fs : List Frame) (s : ℕ) (mapped sp : Bool) (level at : ℕ) → level < 32 → length fs ≡ level
-    → Closes (front fs (AtValue s mapped sp)) at (spell_flow (Empty n)) fs (flow_value (Empty n))
-empty_closes n fs s mapped sp level at h e =
+empty_closes : (p : Pad) (fs : List Frame) (role : Role) (level at : ℕ) → is_key_only role ≡ false → level < 32 → length fs ≡ level → IsPad p → Closes fs role at (spell_flow (Empty p)) (flow_value (Empty p))
+empty_closes p fs role level at k l e h =
     let gs : List Frame = InFlow [] ∷ fs in
+    let xs : List ℕ = spell_pad p in
+    let d : Padded p [] fs (at + 1) = padded p [] fs (at + 1) h in
+    let g : Front = front fs (AfterValue (Whole (a_list (items_from []))) false) in
     record {
-      run = λ rest. goes fs (AtValue s mapped sp) (front gs (AtValue 0 false false)) at 91 ((spaces n ++ 93 ∷ []) ++ rest) refl (bracket_opens fs s mapped sp at level ((spaces n ++ 93 ∷ []) ++ rest) e h)
-          ∙ (ap (λ zs. walk (front gs (AtValue 0 false false)) (at + 1) zs) (append_assoc (spaces n) (93 ∷ []) rest)
-          ∙ (value_spaces n gs 0 false false (at + 1) (93 ∷ rest)
-          ∙ (goes gs (AtValue 0 false (spaced_by false n)) (front fs (AfterValue (Whole (a_list (items_from []))) false)) (past (at + 1) (spaces n)) 93 rest refl
-          (bracket_closes [] fs 0 (spaced_by false n) (past (at + 1) (spaces n)) rest)
-          ∙ ap (λ q. walk (front fs (AfterValue (Whole (a_list (items_from []))) false)) q rest) (sym (past_append (spaces n) (93 ∷ []) (at + 1))))));
+      run = λ rest. begun fs role (front gs (AtValue 0 false false)) at 91 ((xs ++ 93 ∷ []) ++ rest) (bracket_opens fs role at level ((xs ++ 93 ∷ []) ++ rest) k e l)
+          ∙ (ap (λ zs. lines_walk (front gs (AtValue 0 false false)) (at + 1) zs) (append_assoc xs (93 ∷ []) rest)
+          ∙ (d.run (93 ∷ rest)
+          ∙ (goes gs d.inner g (past (at + 1) xs) 93 rest refl (d.closes rest) ∙ ap (λ q. lines_walk g q rest) (sym (past_append xs (93 ∷ []) (at + 1))))));
     }
 
 -- the elements behind a bracket at this place
 abbrev AllEnd : Elements → List Frame → ℕ → Type 0
-AllEnd es fs at = Ends (front (InFlow [] ∷ fs) (AtValue 0 false false)) (at + 1) (spell_elements es) (before_last es) fs (last_element es)
+AllEnd es fs at = Ends (lines_walk (front (InFlow [] ∷ fs) (AtValue 0 false false)) (at + 1)) (at + 1) (spell_elements es) (before_last es) fs (last_element es)
 
-listed_from : (es : Elements) (fs : List Frame) (s : ℕ) (mapped sp : Bool) (level at : ℕ) → level < 32 → length fs ≡ level → AllEnd es fs at
-    → Closes (front fs (AtValue s mapped sp)) at (spell_flow (Listed es)) fs (flow_value (Listed es))
-listed_from es fs s mapped sp level at h e r =
+listed_from : (es : Elements) (fs : List Frame) (role : Role) (level at : ℕ) → is_key_only role ≡ false → level < 32 → length fs ≡ level → AllEnd es fs at
+    → Closes fs role at (spell_flow (Listed es)) (flow_value (Listed es))
+listed_from es fs role level at k h e r =
     let gs : List Frame = InFlow [] ∷ fs in
     record {
-      run = λ rest. goes fs (AtValue s mapped sp) (front gs (AtValue 0 false false)) at 91 ((spell_elements es ++ 93 ∷ []) ++ rest) refl (bracket_opens fs s mapped sp at level ((spell_elements es ++ 93 ∷ []) ++ rest) e h)
-          ∙ (ap (λ zs. walk (front gs (AtValue 0 false false)) (at + 1) zs) (append_assoc (spell_elements es) (93 ∷ []) rest)
+      run = λ rest. begun fs role (front gs (AtValue 0 false false)) at 91 ((spell_elements es ++ 93 ∷ []) ++ rest) (bracket_opens fs role at level ((spell_elements es ++ 93 ∷ []) ++ rest) k e h)
+          ∙ (ap (λ zs. lines_walk (front gs (AtValue 0 false false)) (at + 1) zs) (append_assoc (spell_elements es) (93 ∷ []) rest)
           ∙ (r.bracket rest
-          ∙ (ap (λ (us : List Value). walk (front fs (AfterValue (Whole (a_list (items_from us))) false)) (past (at + 1) (spell_elements es) + 1) rest) (elements_parts es)
-          ∙ ap (λ p. walk (front fs (AfterValue (Whole (flow_value (Listed es))) false)) p rest) (sym (past_append (spell_elements es) (93 ∷ []) (at + 1))))));
+          ∙ (ap (λ (us : List Value). lines_walk (front fs (AfterValue (Whole (a_list (items_from us))) false)) (past (at + 1) (spell_elements es) + 1) rest) (elements_parts es)
+          ∙ ap (λ p. lines_walk (front fs (AfterValue (Whole (flow_value (Listed es))) false)) p rest) (sym (past_append (spell_elements es) (93 ∷ []) (at + 1))))));
     }
 
-trailed_from : (es : Elements) (n : ℕ) (fs : List Frame) (s : ℕ) (mapped sp : Bool) (level at : ℕ) → level < 32 → length fs ≡ level → AllEnd es fs at
-    → Closes (front fs (AtValue s mapped sp)) at (spell_flow (Trailed es n)) fs (flow_value (Trailed es n))
-trailed_from es n fs s mapped sp level at h e r =
+trailed_from : (es : Elements) (p : Pad) (fs : List Frame) (role : Role) (level at : ℕ) → is_key_only role ≡ false → level < 32 → length fs ≡ level → AllEnd es fs at → IsPad p
+    → Closes fs role at (spell_flow (Trailed es p)) (flow_value (Trailed es p))
+trailed_from es p fs role level at k l e r h =
     let gs : List Frame = InFlow [] ∷ fs in
     let hs : List Frame = InFlow (element_values es) ∷ fs in
-    let ys : List ℕ = spaces n ++ 93 ∷ [] in
-    let p : ℕ = past (at + 1) (spell_elements es) + 1 in
+    let xs : List ℕ = spell_pad p in
+    let ys : List ℕ = xs ++ 93 ∷ [] in
+    let m : ℕ = past (at + 1) (spell_elements es) + 1 in
+    let d : Padded p (element_values es) fs m = padded p (element_values es) fs m h in
+    let g : Front = front fs (AfterValue (Whole (flow_value (Trailed es p))) false) in
     record {
-      run = λ rest. goes fs (AtValue s mapped sp) (front gs (AtValue 0 false false)) at 91 ((spell_elements es ++ 44 ∷ ys) ++ rest) refl (bracket_opens fs s mapped sp at level ((spell_elements es ++ 44 ∷ ys) ++ rest) e h)
-          ∙ (ap (λ zs. walk (front gs (AtValue 0 false false)) (at + 1) zs) (append_assoc (spell_elements es) (44 ∷ ys) rest)
+      run = λ rest. begun fs role (front gs (AtValue 0 false false)) at 91 ((spell_elements es ++ 44 ∷ ys) ++ rest) (bracket_opens fs role at level ((spell_elements es ++ 44 ∷ ys) ++ rest) k e l)
+          ∙ (ap (λ zs. lines_walk (front gs (AtValue 0 false false)) (at + 1) zs) (append_assoc (spell_elements es) (44 ∷ ys) rest)
           ∙ (r.comma (ys ++ rest)
-          ∙ (ap (λ (us : List Value). walk (front (InFlow us ∷ fs) (AtValue 0 false false)) p (ys ++ rest)) (elements_parts es)
-          ∙ (ap (λ zs. walk (front hs (AtValue 0 false false)) p zs) (append_assoc (spaces n) (93 ∷ []) rest)
-          ∙ (value_spaces n hs 0 false false p (93 ∷ rest)
-          ∙ (goes hs (AtValue 0 false (spaced_by false n)) (front fs (AfterValue (Whole (flow_value (Trailed es n))) false)) (past p (spaces n)) 93 rest refl
-          (bracket_closes (element_values es) fs 0 (spaced_by false n) (past p (spaces n)) rest)
-          ∙ ap (λ q. walk (front fs (AfterValue (Whole (flow_value (Trailed es n))) false)) q rest)
-          (sym (past_append (spell_elements es) (44 ∷ ys) (at + 1) ∙ past_append (spaces n) (93 ∷ []) p))))))));
+          ∙ (ap (λ (us : List Value). lines_walk (front (InFlow us ∷ fs) (AtValue 0 false false)) m (ys ++ rest)) (elements_parts es)
+          ∙ (ap (λ zs. lines_walk (front hs (AtValue 0 false false)) m zs) (append_assoc xs (93 ∷ []) rest)
+          ∙ (d.run (93 ∷ rest)
+          ∙ (goes hs d.inner g (past m xs) 93 rest refl (d.closes rest)
+          ∙ ap (λ q. lines_walk g q rest) (sym (past_append (spell_elements es) (44 ∷ ys) (at + 1) ∙ past_append xs (93 ∷ []) m))))))));
     }
 
 one_more : (fs : List Frame) (level : ℕ) → length fs ≡ level → length (InFlow [] ∷ fs) ≡ suc level
 one_more fs level e = omega arith
 
+-- the first character of an item
+pub signed : (c : ℕ) (cs : List ℕ) (place : Option ℕ) (flow ended : Bool) → (c == 32) ≡ false → (c == 10) ≡ false → (c == 9) ≡ false → (c == 35) ≡ false → (c == 13) ≡ false → (c == 45) ≡ false → (c == 46) ≡ false → (c == 93) ≡ false → Started place flow ended (c ∷ cs)
+signed c cs place flow ended a b d e f g h i = record { first = c; tail = cs; parts = refl; starts = λ rest _. sign_starts place flow c (cs ++ rest) a b d e f g h i }
+
+pub flow_started : (x : Flow) (place : Option ℕ) (flow ended : Bool) (least level : ℕ) → IsFlow place flow ended least level x → Started place flow ended (spell_flow x)
+flow_started (Text (Plain c cs ls)) place flow ended least level h = record {
+  first = c;
+  tail = cs ++ spell_furthers ls;
+  parts = refl;
+  starts = λ rest a. subst (λ zs. Starts place flow c zs) (sym (append_assoc cs (spell_furthers ls) rest)) (plain_starts place flow (line_ends ended ls) c cs (spell_furthers ls ++ rest) h.0 (lines_after ended ls rest a));
+}
+flow_started (Text (Double xs)) place flow ended least level h = signed 34 (spell_inners xs ++ 34 ∷ []) place flow ended refl refl refl refl refl refl refl refl
+flow_started (Text (Single cs)) place flow ended least level h = signed 39 (spell_singles cs ++ 39 ∷ []) place flow ended refl refl refl refl refl refl refl refl
+flow_started (Empty p) place flow ended least level h = signed 91 (spell_pad p ++ 93 ∷ []) place flow ended refl refl refl refl refl refl refl refl
+flow_started (Listed es) place flow ended least level h = signed 91 (spell_elements es ++ 93 ∷ []) place flow ended refl refl refl refl refl refl refl refl
+flow_started (Trailed es p) place flow ended least level h = signed 91 (spell_elements es ++ 44 ∷ (spell_pad p ++ 93 ∷ [])) place flow ended refl refl refl refl refl refl refl refl
+
+-- behind a bracket or comma
+item_behind : (x : Flow) (p q : Pad) (vs : List Value) (fs : List Frame) (least level at : ℕ) → IsPad p → IsPad q → IsFlow (place_behind p) true (ends_before q) least level x
+    → Ends (begin_run (InFlow vs ∷ fs) ValueOnly (past at (spell_pad p))) (past at (spell_pad p)) (spell_flow x ++ spell_pad q) vs fs (flow_value x)
+    → Ends (lines_walk (front (InFlow vs ∷ fs) (AtValue 0 false false)) at) at (spell_pad p ++ (spell_flow x ++ spell_pad q)) vs fs (flow_value x)
+item_behind x p q vs fs least level at h g i e =
+    let gs : List Frame = InFlow vs ∷ fs in
+    let v : Value = flow_value x in
+    let xs : List ℕ = spell_pad p in
+    let m : ℕ = past at xs in
+    let ys : List ℕ = spell_flow x ++ spell_pad q in
+    let d : Padded p vs fs at = padded p vs fs at h in
+    let run : (rest : List ℕ) → After false rest → lines_walk (front gs (AtValue 0 false false)) at ((xs ++ ys) ++ rest) ≡ begin_run gs ValueOnly m (ys ++ rest)
+    = λ rest a. ap (λ us. lines_walk (front gs (AtValue 0 false false)) at us) (append_assoc xs ys rest)
+    ∙ (d.run (ys ++ rest)
+    ∙ (ap (λ us. lines_walk (front gs d.inner) m us) (append_assoc (spell_flow x) (spell_pad q) rest)
+    ∙ (started_by (place_behind p) true (ends_before q) (spell_flow x) (flow_started x (place_behind p) true (ends_before q) least level i) gs gs d.inner ValueOnly m (spell_pad q ++ rest) (pad_after q rest g a) d.begins
+    ∙ ap (λ us. begin_run gs ValueOnly m us) (sym (append_assoc (spell_flow x) (spell_pad q) rest))))) in
+    record {
+      comma = λ rest. run (44 ∷ rest) (comma_after rest) ∙ (e.comma rest ∙ ap (λ k. lines_walk (front (InFlow (vs ++ v ∷ []) ∷ fs) (AtValue 0 false false)) (k + 1) rest) (sym (past_append xs ys at)));
+      bracket = λ rest. run (93 ∷ rest) (bracket_after rest) ∙ (e.bracket rest ∙ ap (λ k. lines_walk (front fs (AfterValue (Whole (a_list (items_from (vs ++ v ∷ [])))) false)) (k + 1) rest) (sym (past_append xs ys at)));
+    }
+
+-- where further lines of an item may begin
+abbrev Deep : ℕ → List Frame → Type 0
+Deep least fs = (k : ℕ) → least ≤ k → is_deeper k fs ≡ true
+
 mutual
-  -- an item with the spaces behind it
-  item_ends : (x : Flow) (m : ℕ) (vs : List Value) (fs : List Frame) (level : ℕ) (sp : Bool) (at : ℕ) → IsFlow level x → length (InFlow vs ∷ fs) ≡ level
-      → Ends (front (InFlow vs ∷ fs) (AtValue 0 false sp)) at (spell_flow x ++ spaces m) vs fs (flow_value x)
-  item_ends (Text (Plain ws)) m vs fs level sp at h e =
+  -- an item with what stands behind it
+  item_ends : (x : Flow) (q : Pad) (place : Option ℕ) (vs : List Value) (fs : List Frame) (least level at : ℕ) → IsPad q → IsFlow place true (ends_before q) least level x → length (InFlow vs ∷ fs) ≡ level → Deep least fs
+      → Ends (begin_run (InFlow vs ∷ fs) ValueOnly at) at (spell_flow x ++ spell_pad q) vs fs (flow_value x)
+  item_ends (Text (Plain c cs ls)) q place vs fs least level at g h e d =
       let gs : List Frame = InFlow vs ∷ fs in
-      let c : ℕ = first_of ws in
-      let cs : List ℕ = behind_first ws in
-      let x : List ℕ = encode_utf8 c ++ encode_utf8_all cs in
-      let f : BeginFacts c = first_facts ws h in
-      let r : Ends (front gs (AtValue 0 false sp)) at ((c ∷ cs) ++ spaces m) vs fs (scalar_of x)
-      = ends_behind (front gs (AtValue 0 false sp)) (front gs (InPlain (on_line x []) ValueOnly at false)) at (c ∷ cs) (spaces m) vs fs (scalar_of x)
-      (λ rest. goes gs (AtValue 0 false sp) (front gs (InPlain (on_line (encode_utf8 c) []) ValueOnly at false)) at c (cs ++ rest) f.plain.return (plain_value gs 0 false sp at c (cs ++ rest) f)
-      ∙ words_go ws gs (encode_utf8 c) ValueOnly at (at + len_utf8 c) rest h)
-      (plain_ends m vs fs x ValueOnly at (past at (c ∷ cs))) in
-      let P : List ℕ → Type 0 = λ ys. Ends (front gs (AtValue 0 false sp)) at (ys ++ spaces m) vs fs (scalar_of (encode_utf8_all ys)) in
-      subst P (sym (words_parts ws)) r
-  item_ends (Text (Double xs)) m vs fs level sp at h e =
+      let xs : List ℕ = spell_plain c cs ls in
+      let t : Folding = with_chars nothing_yet xs in
+      let r : Plained gs (ends_before q) ValueOnly at xs = plain_goes c cs ls place gs true (ends_before q) least ValueOnly at refl refl d h.0 h.1 in
+      ends_behind (begin_run gs ValueOnly at) (front gs (InPlain t r.role_then r.begun r.spaced)) at xs q vs fs (scalar_of t.text) g r.run (plain_pad q vs fs t r.role_then r.begun r.spaced (past at xs) r.value g)
+  item_ends (Text (Double ys)) q place vs fs least level at g h e d =
       let gs : List Frame = InFlow vs ∷ fs in
-      let ys : List ℕ = spell_inners xs ++ 34 ∷ [] in
-      ends_behind (front gs (AtValue 0 false sp)) (front gs (AfterQuoted (inner_text xs) ValueOnly at false)) at (34 ∷ ys) (spaces m) vs fs (a_text (inner_text xs))
-      (λ rest. goes gs (AtValue 0 false sp) (front gs (InDouble nothing_yet ValueOnly at)) at 34 (ys ++ rest) refl (quoted_value gs 0 false sp at (ys ++ rest))
-      ∙ quoted_goes xs gs ValueOnly at (at + len_utf8 34) rest h)
-      (quoted_ends m vs fs (inner_text xs) at (past at (34 ∷ ys)))
-  item_ends (Empty n) m vs fs level sp at h e = list_ends (Empty n) m vs fs sp at (empty_closes n (InFlow vs ∷ fs) 0 false sp level at h e)
-  item_ends (Listed es) m vs fs level sp at h e = list_ends (Listed es) m vs fs sp at (listed_from es (InFlow vs ∷ fs) 0 false sp level at h.0 e (elements_end es (InFlow vs ∷ fs) (suc level) (at + 1) h.1 (one_more (InFlow vs ∷ fs) level e)))
-  item_ends (Trailed es n) m vs fs level sp at h e = list_ends (Trailed es n) m vs fs sp at (trailed_from es n (InFlow vs ∷ fs) 0 false sp level at h.0 e (elements_end es (InFlow vs ∷ fs) (suc level) (at + 1) h.1 (one_more (InFlow vs ∷ fs) level e)))
+      let xs : List ℕ = spell_scalar (Double ys) in
+      let x : List ℕ = double_text ys in
+      let r : Role = role_then is_line_end ValueOnly ys in
+      ends_behind (begin_run gs ValueOnly at) (front gs (AfterQuoted x r at false)) at xs q vs fs (a_text x) g (λ rest a. double_goes ys gs ValueOnly at rest h (λ _. refl))
+      (quoted_pad q vs fs x r at (past at xs) (value_then is_line_end ys ValueOnly refl) g)
+  item_ends (Text (Single cs)) q place vs fs least level at g h e d =
+      let gs : List Frame = InFlow vs ∷ fs in
+      let xs : List ℕ = spell_scalar (Single cs) in
+      let x : List ℕ = single_text cs in
+      let r : Role = role_then is_feed ValueOnly cs in
+      ends_behind (begin_run gs ValueOnly at) (front gs (AfterQuoted x r at false)) at xs q vs fs (a_text x) g (λ rest a. singled_goes cs gs ValueOnly at rest h (λ _. refl) a.quote)
+      (quoted_pad q vs fs x r at (past at xs) (value_then is_feed cs ValueOnly refl) g)
+  item_ends (Empty p) q place vs fs least level at g h e d = list_ends (Empty p) q vs fs at g (empty_closes p (InFlow vs ∷ fs) ValueOnly level at refl h.0 e h.1)
+  item_ends (Listed es) q place vs fs least level at g h e d =
+      list_ends (Listed es) q vs fs at g (listed_from es (InFlow vs ∷ fs) ValueOnly level at refl h.0 e (elements_end es (InFlow vs ∷ fs) least (suc level) (at + 1) h.1 (one_more (InFlow vs ∷ fs) level e) d))
+  item_ends (Trailed es p) q place vs fs least level at g h e d =
+      list_ends (Trailed es p) q vs fs at g (trailed_from es p (InFlow vs ∷ fs) ValueOnly level at refl h.0 e (elements_end es (InFlow vs ∷ fs) least (suc level) (at + 1) h.1 (one_more (InFlow vs ∷ fs) level e) d) h.2)
 
-  elements_end : (es : Elements) (fs : List Frame) (level at : ℕ) → AreElements level es → length (InFlow [] ∷ fs) ≡ level
-      → Ends (front (InFlow [] ∷ fs) (AtValue 0 false false)) at (spell_elements es) (before_last es) fs (last_element es)
-  elements_end (One n x m) fs level at h e =
-      let gs : List Frame = InFlow [] ∷ fs in
-      ends_behind (front gs (AtValue 0 false false)) (front gs (AtValue 0 false (spaced_by false n))) at (spaces n) (spell_flow x ++ spaces m) [] fs (flow_value x)
-      (λ rest. value_spaces n gs 0 false false at rest) (item_ends x m [] fs level (spaced_by false n) (past at (spaces n)) h e)
-  elements_end (Another es n x m) fs level at h e =
-      let r : Ends (front (InFlow [] ∷ fs) (AtValue 0 false false)) at (spell_elements es) (before_last es) fs (last_element es) = elements_end es fs level at h.0 e in
-      let gs : List Frame = InFlow (element_values es) ∷ fs in
-      let p : ℕ = past at (spell_elements es) + 1 in
-      let ys : List ℕ = spell_flow x ++ spaces m in
-      let q : Ends (front gs (AtValue 0 false false)) p (spaces n ++ ys) (element_values es) fs (flow_value x)
-      = ends_behind (front gs (AtValue 0 false false)) (front gs (AtValue 0 false (spaced_by false n))) p (spaces n) ys (element_values es) fs (flow_value x)
-      (λ rest. value_spaces n gs 0 false false p rest) (item_ends x m (element_values es) fs level (spaced_by false n) (past p (spaces n)) h.1 e) in
-      let P : List ℕ → Type 0 = λ zs. Ends (front (InFlow [] ∷ fs) (AtValue 0 false false)) at zs (element_values es) fs (flow_value x) in
-      subst P (append_assoc (spell_elements es) (44 ∷ []) (spaces n ++ ys))
-      (ends_behind (front (InFlow [] ∷ fs) (AtValue 0 false false)) (front gs (AtValue 0 false false)) at (spell_elements es ++ 44 ∷ []) (spaces n ++ ys) (element_values es) fs (flow_value x)
-      (λ rest. ap (λ zs. walk (front (InFlow [] ∷ fs) (AtValue 0 false false)) at zs) (append_assoc (spell_elements es) (44 ∷ []) rest)
-      ∙ (r.comma rest
-      ∙ (ap (λ (us : List Value). walk (front (InFlow us ∷ fs) (AtValue 0 false false)) p rest) (elements_parts es)
-      ∙ ap (λ k. walk (front gs (AtValue 0 false false)) k rest) (sym (past_append (spell_elements es) (44 ∷ []) at)))))
-      (let Q : ℕ → Type 0 = λ k. Ends (front gs (AtValue 0 false false)) k (spaces n ++ ys) (element_values es) fs (flow_value x) in
-      subst Q (sym (past_append (spell_elements es) (44 ∷ []) at)) q))
+  elements_end : (es : Elements) (fs : List Frame) (least level at : ℕ) → AreElements least level es → length (InFlow [] ∷ fs) ≡ level → Deep least fs
+      → Ends (lines_walk (front (InFlow [] ∷ fs) (AtValue 0 false false)) at) at (spell_elements es) (before_last es) fs (last_element es)
+  elements_end (One p x q) fs least level at h e d = item_behind x p q [] fs least level at h.0 h.2 h.1 (item_ends x q (place_behind p) [] fs least level (past at (spell_pad p)) h.2 h.1 e d)
+  elements_end (Another es p x q) fs least level at h e d =
+      let r : Ends (lines_walk (front (InFlow [] ∷ fs) (AtValue 0 false false)) at) at (spell_elements es) (before_last es) fs (last_element es) = elements_end es fs least level at h.0 e d in
+      let f : Front = front (InFlow [] ∷ fs) (AtValue 0 false false) in
+      let us : List Value = element_values es in
+      let v : Value = flow_value x in
+      let gs : List Frame = InFlow us ∷ fs in
+      let xs : List ℕ = spell_elements es in
+      let m : ℕ = past at xs + 1 in
+      let ys : List ℕ = spell_pad p ++ (spell_flow x ++ spell_pad q) in
+      let same : past at (xs ++ 44 ∷ ys) ≡ past m ys = past_append xs (44 ∷ ys) at in
+      let i : Ends (lines_walk (front gs (AtValue 0 false false)) m) m ys us fs v
+      = item_behind x p q us fs least level m h.1 h.3 h.2 (item_ends x q (place_behind p) us fs least level (past m (spell_pad p)) h.3 h.2 e d) in
+      let step : (rest : List ℕ) → lines_walk f at ((xs ++ 44 ∷ ys) ++ rest) ≡ lines_walk (front gs (AtValue 0 false false)) m (ys ++ rest)
+      = λ rest. ap (λ zs. lines_walk f at zs) (append_assoc xs (44 ∷ ys) rest)
+      ∙ (r.comma (ys ++ rest) ∙ ap (λ (ws : List Value). lines_walk (front (InFlow ws ∷ fs) (AtValue 0 false false)) m (ys ++ rest)) (elements_parts es)) in
+      record {
+        comma = λ rest. step (44 ∷ rest) ∙ (i.comma rest ∙ ap (λ k. lines_walk (front (InFlow (us ++ v ∷ []) ∷ fs) (AtValue 0 false false)) (k + 1) rest) (sym same));
+        bracket = λ rest. step (93 ∷ rest) ∙ (i.bracket rest ∙ ap (λ k. lines_walk (front fs (AfterValue (Whole (a_list (items_from (us ++ v ∷ [])))) false)) (k + 1) rest) (sym same));
+      }
 
--- ---- a scalar or a flow list on the line of its key or dash
+-- ---- a scalar or a flow list, and the end of its line
 
-after_feed : (fs : List Frame) (v : Value) (sp : Bool) (at : ℕ) (rest : List ℕ) → taken fs (AfterValue (Whole v) sp) at 10 rest ≡ Ok (front fs (AtLine (at + 1) (Whole v)))
-unfolding taken in_after_value
-after_feed fs v sp at rest = refl
+closed_line : (x : Flow) (e : Ending) (fs : List Frame) (role : Role) (at : ℕ) → Closes fs role at (spell_flow x) (flow_value x) → IsEnding e → IsApart e → Begun fs role at (spell_flow x ++ spell_ending e) (flow_value x)
+closed_line x e fs role at c h a =
+    begun_behind fs role (front fs (AfterValue (Whole (flow_value x)) false)) at (spell_flow x) (spell_ending e) (flow_value x) (λ rest. c.run (spell_ending e ++ rest)) (value_line e fs (flow_value x) (past at (spell_flow x)) h a)
 
-after_hash : (fs : List Frame) (v : Value) (at : ℕ) (rest : List ℕ) → taken fs (AfterValue (Whole v) true) at 35 rest ≡ Ok (front fs (InComment (Whole v)))
-unfolding taken in_after_value
-after_hash fs v at rest = refl
-
-value_line : (e : Ending) (fs : List Frame) (v : Value) (at : ℕ) → IsEnding e → IsApart e → Reads (front fs (AfterValue (Whole v) false)) at (spell_ending e) fs v
-value_line (Bare n) fs v at h a = record {
-  wait = Whole v;
-  is = refl;
-  run = λ rest. ap (λ zs. walk (front fs (AfterValue (Whole v) false)) at zs) (append_assoc (spaces n) (10 ∷ []) rest)
-      ∙ (spaces_after n fs (Whole v) false at (10 ∷ rest)
-      ∙ (goes fs (AfterValue (Whole v) (spaced_by false n)) (front fs (AtLine (past at (spaces n) + 1) (Whole v))) (past at (spaces n)) 10 rest refl (after_feed fs v (spaced_by false n) (past at (spaces n)) rest)
-      ∙ ap (λ p. walk (front fs (AtLine p (Whole v))) p rest) (sym (past_append (spaces n) (10 ∷ []) at))));
-}
-value_line (Noted zero text) fs v at h a = absurd (omega arith)
-value_line (Noted (suc n) text) fs v at h a = record {
-  wait = Whole v;
-  is = refl;
-  run = λ rest.
-      let p : ℕ = past at (spaces (suc n)) in
-      let t : List ℕ = text ++ 10 ∷ [] in
-      ap (λ zs. walk (front fs (AfterValue (Whole v) false)) at zs) (append_assoc (spaces (suc n)) (35 ∷ t) rest)
-      ∙ (spaces_after (suc n) fs (Whole v) false at (35 ∷ (t ++ rest))
-      ∙ (goes fs (AfterValue (Whole v) true) (front fs (InComment (Whole v))) p 35 (t ++ rest) refl (after_hash fs v p (t ++ rest))
-      ∙ (comment_goes text fs (Whole v) (p + len_utf8 35) rest h
-      ∙ ap (λ q. walk (front fs (AtLine q (Whole v))) q rest) (sym (past_append (spaces (suc n)) (35 ∷ t) at)))));
-}
-
-closed_line : (x : Flow) (e : Ending) (fs : List Frame) (s : ℕ) (m : Bool) (at : ℕ) → Closes (front fs (AtValue s m true)) at (spell_flow x) fs (flow_value x) → IsEnding e → IsApart e
-    → Reads (front fs (AtValue s m true)) at (spell_flow x ++ spell_ending e) fs (flow_value x)
-closed_line x e fs s m at c h a =
-    reads_behind (front fs (AtValue s m true)) (front fs (AfterValue (Whole (flow_value x)) false)) at (spell_flow x) (spell_ending e) fs (flow_value x) c.run
-    (value_line e fs (flow_value x) (past at (spell_flow x)) h a)
-
-flow_reads : (x : Flow) (e : Ending) (fs : List Frame) (s : ℕ) (m : Bool) (level at : ℕ) → IsFlow level x → length fs ≡ level → IsEnding e → IsApart e
-    → Reads (front fs (AtValue s m true)) at (spell_flow x ++ spell_ending e) fs (flow_value x)
-flow_reads (Text t) e fs s m level at l c h a = leaf_reads t e fs s m at l h a
-flow_reads (Empty n) e fs s m level at l c h a = closed_line (Empty n) e fs s m at (empty_closes n fs s m true level at l c) h a
-flow_reads (Listed es) e fs s m level at l c h a = closed_line (Listed es) e fs s m at (listed_from es fs s m true level at l.0 c (elements_end es fs (suc level) (at + 1) l.1 (one_more fs level c))) h a
-flow_reads (Trailed es n) e fs s m level at l c h a = closed_line (Trailed es n) e fs s m at (trailed_from es n fs s m true level at l.0 c (elements_end es fs (suc level) (at + 1) l.1 (one_more fs level c))) h a
-
-pub value_reads : (n : ℕ) (x : Flow) (e : Ending) (fs : List Frame) (s : ℕ) (m sp : Bool) (level at : ℕ) → IsFlow level x → length fs ≡ level → IsEnding e → IsApart e
-    → Reads (front fs (AtValue s m sp)) at (spaces (suc n) ++ (spell_flow x ++ spell_ending e)) fs (flow_value x)
-value_reads n x e fs s m sp level at l c h a =
-    reads_behind (front fs (AtValue s m sp)) (front fs (AtValue s m true)) at (spaces (suc n)) (spell_flow x ++ spell_ending e) fs (flow_value x)
-    (λ rest. some_spaces n fs s m sp at rest) (flow_reads x e fs s m level (past at (spaces (suc n))) l c h a)
+pub flow_reads : (x : Flow) (e : Ending) (place : Option ℕ) (fs : List Frame) (role : Role) (least level at : ℕ) → is_key_only role ≡ false → IsFlow place false true least level x → is_flow fs ≡ false → length fs ≡ level → Deep least fs → IsEnding e → IsApart e
+    → Begun fs role at (spell_flow x ++ spell_ending e) (flow_value x)
+flow_reads (Text (Plain c cs ls)) e place fs role least level at k h f n d g a =
+    let xs : List ℕ = spell_plain c cs ls in
+    let t : Folding = with_chars nothing_yet xs in
+    let r : Plained fs true role at xs = plain_goes c cs ls place fs false true least role at k f d h.0 h.1 in
+    begun_behind fs role (front fs (InPlain t r.role_then r.begun r.spaced)) at xs (spell_ending e) (scalar_of t.text) (λ rest. r.run (spell_ending e ++ rest) (after_ending e rest a))
+    (plain_ends e fs t r.role_then r.begun r.spaced (past at xs) r.value g a)
+flow_reads (Text (Double xs)) e place fs role least level at k h f n d g a =
+    let x : List ℕ = double_text xs in
+    let ys : List ℕ = spell_scalar (Double xs) in
+    let r : Role = role_then is_line_end role xs in
+    begun_behind fs role (front fs (AfterQuoted x r at false)) at ys (spell_ending e) (a_text x) (λ rest. double_goes xs fs role at (spell_ending e ++ rest) h (λ _. k))
+    (quoted_ends e fs x r at (past at ys) (value_then is_line_end xs role k) g a)
+flow_reads (Text (Single cs)) e place fs role least level at k h f n d g a =
+    let x : List ℕ = single_text cs in
+    let ys : List ℕ = spell_scalar (Single cs) in
+    let r : Role = role_then is_feed role cs in
+    begun_behind fs role (front fs (AfterQuoted x r at false)) at ys (spell_ending e) (a_text x) (λ rest. singled_goes cs fs role at (spell_ending e ++ rest) h (λ _. k) (after_ending e rest a).quote)
+    (quoted_ends e fs x r at (past at ys) (value_then is_feed cs role k) g a)
+flow_reads (Empty p) e place fs role least level at k h f n d g a = closed_line (Empty p) e fs role at (empty_closes p fs role level at k h.0 n h.1) g a
+flow_reads (Listed es) e place fs role least level at k h f n d g a =
+    closed_line (Listed es) e fs role at (listed_from es fs role level at k h.0 n (elements_end es fs least (suc level) (at + 1) h.1 (one_more fs level n) d)) g a
+flow_reads (Trailed es p) e place fs role least level at k h f n d g a =
+    closed_line (Trailed es p) e fs role at (trailed_from es p fs role level at k h.0 n (elements_end es fs least (suc level) (at + 1) h.1 (one_more fs level n) d) h.2) g a

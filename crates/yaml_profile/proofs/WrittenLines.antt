@@ -1,38 +1,40 @@
 -- How lines end, and how scalars and keys stand on them.
-use Rattle.std.proofs.Common.{◌≡◌, ℕ, zero, suc, ◌+◌, ◌-◌, Bool, true, false, ◌==◌, List, [], ◌∷◌, ◌++◌, Result, Ok, if◌then◌else◌, refl, sym, ap, subst, ◌∙◌, arith, append_assoc}
-use Rattle.std.specs.Char.{encode_utf8, len_utf8}
-use Rattle.std.specs.Str.{encode_utf8_all}
-use Rattle.std.proofs.lemmas.Bool.{and_parts}
+use Rattle.std.proofs.Common.{◌≡◌, ℕ, zero, suc, ◌+◌, Bool, true, false, ◌&&◌, ◌==◌, List, [], ◌∷◌, ◌++◌, Result, Ok, if◌then◌else◌, refl, sym, ap, ◌∙◌, arith, append_assoc, inl, inr}
+use Rattle.std.specs.Char.{len_utf8}
+use Rattle.std.specs.List.{list_all}
+use Rattle.std.proofs.lemmas.Bool.{and_parts, cases_Bool}
 use Rattle.edt_base.specs.YamlData.{Value, a_text, null}
 use Rattle.yaml_profile.specs.declared.stop.Broken.{Broken}
 use Rattle.yaml_profile.specs.declared.front.Role.{Role}
 use Rattle.yaml_profile.specs.declared.front.Role.TheVariants.{Value as ValueOnly, Either}
 use Rattle.yaml_profile.specs.declared.folding.Seam.{Seam}
 use Rattle.yaml_profile.specs.declared.folding.Seam.TheVariants.{Inside, Folds, Joins}
+use Rattle.yaml_profile.specs.Answers.{◌>>=◌, no_text}
+use Rattle.yaml_profile.specs.Signs.{begins_with, ends_word, begins_nothing, is_word_sign}
 use Rattle.yaml_profile.specs.Scalars.{scalar_of}
 use Rattle.yaml_profile.specs.Folding.{Folding, nothing_yet, end_line, after_line}
-use Rattle.yaml_profile.specs.Fronts.{Frame, Waiting, Fresh, Nothing, Going, Whole, AtLine, AtValue, InPlain, InDouble, AfterQuoted, InComment, Front, front, value_so_far}
-use Rattle.yaml_profile.specs.Pieces.{in_at_value, in_plain, begin_value, in_after_quoted, in_after_value, is_key_only}
+use Rattle.yaml_profile.specs.Fronts.{Frame, Waiting, Fresh, Nothing, Going, Whole, AtLine, AtValue, InPlain, InSingle, InDouble, AfterQuoted, InComment, Front, front, value_so_far, is_flow}
+use Rattle.yaml_profile.specs.Pieces.{in_at_value, in_plain, begin_value, in_after_quoted, in_after_value, is_key_only, is_value_sign}
 use Rattle.yaml_profile.specs.Layout.{in_line, one_line_more, ended}
-use Rattle.yaml_profile.specs.Reading.{taken, walk}
-use Rattle.yaml_profile.specs.Written.{spaces, Ending, Bare, Noted, spell_ending, IsEnding, IsApart, spell_gaps, AreGaps, begins_plain, Words, Word, Then, AreWords, Scalar, Plain, Double, spell_scalar, IsScalarText, scalar_value, spell_inners, inner_text}
-use Rattle.yaml_profile.proofs.WrittenTexts.{past, past_append, goes, spaces_line, some_spaces, spaces_quoted, spaced_by, comment_goes, on_line, put_char, PlainFacts, plain_facts, words_go, spaces_plain, behind_first, first_of, words_parts}
-use Rattle.yaml_profile.proofs.WrittenQuotes.{quoted_goes, not_true}
+use Rattle.yaml_profile.specs.Reading.{taken}
+use Rattle.yaml_profile.specs.Written.{spaces, Ending, Bare, Noted, spell_ending, IsEnding, IsApart, spell_gaps, AreGaps, word_ends, stays_plain, begins_plain, with_char, with_chars, Inner, is_inner_quoted, Double, Single, spell_scalar, spell_inners, double_text, is_line_end, single_text, is_feed, no_return, spell_singles}
+use Rattle.yaml_profile.proofs.WrittenTexts.{lines_walk, past, past_append, goes, spaces_line, some_spaces, spaces_quoted, spaced_by, comment_goes, not_true, next_word, chars_go, spaced_after, spaces_plain, spaces_text}
+use Rattle.yaml_profile.proofs.WrittenQuotes.{MayEnd, role_then, quoted_goes, single_goes}
 
 -- these characters lead to the start of a line, with these collections open and this value read last
 pub record Reads (f : Front) (at : ℕ) (xs : List ℕ) (fs : List Frame) (v : Value) : Type 0 where
   pub wait : Waiting
   pub is : value_so_far wait ≡ v
-  pub run : (rest : List ℕ) → walk f at (xs ++ rest) ≡ walk (front fs (AtLine (past at xs) wait)) (past at xs) rest
+  pub run : (rest : List ℕ) → lines_walk f at (xs ++ rest) ≡ lines_walk (front fs (AtLine (past at xs) wait)) (past at xs) rest
 
 -- one step leads to another front
 pub reads_behind : (f g : Front) (at : ℕ) (xs ys : List ℕ) (fs : List Frame) (v : Value)
-    → ((rest : List ℕ) → walk f at (xs ++ rest) ≡ walk g (past at xs) rest) → Reads g (past at xs) ys fs v → Reads f at (xs ++ ys) fs v
+    → ((rest : List ℕ) → lines_walk f at (xs ++ rest) ≡ lines_walk g (past at xs) rest) → Reads g (past at xs) ys fs v → Reads f at (xs ++ ys) fs v
 reads_behind f g at xs ys fs v step r = record {
   wait = r.wait;
   is = r.is;
-  run = λ rest. ap (λ zs. walk f at zs) (append_assoc xs ys rest) ∙ (step (ys ++ rest) ∙ (r.run rest
-      ∙ ap (λ m. walk (front fs (AtLine m r.wait)) m rest) (sym (past_append xs ys at))));
+  run = λ rest. ap (λ zs. lines_walk f at zs) (append_assoc xs ys rest) ∙ (step (ys ++ rest) ∙ (r.run rest
+      ∙ ap (λ m. lines_walk (front fs (AtLine m r.wait)) m rest) (sym (past_append xs ys at))));
 }
 
 -- what is read may go on
@@ -53,13 +55,13 @@ pub line_hash : (fs : List Frame) (s : ℕ) (w : Waiting) (at : ℕ) (rest : Lis
 unfolding taken in_line
 line_hash fs s w at rest = refl
 
-by_seam : (s : Seam) (t : Folding) → (after_line s t).text ≡ t.text
-by_seam Inside t = refl
-by_seam Folds t = refl
-by_seam Joins t = refl
+line_seam : (s : Seam) (t : Folding) → (after_line s t).text ≡ t.text
+line_seam Inside t = refl
+line_seam Folds t = refl
+line_seam Joins t = refl
 
-end_line_text : (t : Folding) → (end_line t).text ≡ t.text
-end_line_text t = by_seam t.seam t
+pub end_line_text : (t : Folding) → (end_line t).text ≡ t.text
+end_line_text t = line_seam t.seam t
 
 pub going_is : (t : Folding) → scalar_of (end_line t).text ≡ scalar_of t.text
 going_is t = ap scalar_of (end_line_text t)
@@ -80,10 +82,10 @@ unfoldable pub gap_reads : (e : Ending) (fs : List Frame) (s : ℕ) (w : Waiting
 gap_reads (Bare n) fs s w at h = record {
   wait = one_line_more w;
   is = more_is w;
-  run = λ rest. ap (λ zs. walk (front fs (AtLine s w)) at zs) (append_assoc (spaces n) (10 ∷ []) rest)
+  run = λ rest. ap (λ zs. lines_walk (front fs (AtLine s w)) at zs) (append_assoc (spaces n) (10 ∷ []) rest)
       ∙ (spaces_line n fs s w at (10 ∷ rest)
       ∙ (goes fs (AtLine s w) (front fs (AtLine (past at (spaces n) + 1) (one_line_more w))) (past at (spaces n)) 10 rest refl (line_feed fs s w (past at (spaces n)) rest)
-      ∙ ap (λ m. walk (front fs (AtLine m (one_line_more w))) m rest) (sym (past_append (spaces n) (10 ∷ []) at))));
+      ∙ ap (λ m. lines_walk (front fs (AtLine m (one_line_more w))) m rest) (sym (past_append (spaces n) (10 ∷ []) at))));
 }
 gap_reads (Noted n text) fs s w at h = record {
   wait = ended w;
@@ -91,15 +93,15 @@ gap_reads (Noted n text) fs s w at h = record {
   run = λ rest.
       let m : ℕ = past at (spaces n) in
       let k : List ℕ = text ++ 10 ∷ [] in
-      ap (λ zs. walk (front fs (AtLine s w)) at zs) (append_assoc (spaces n) (35 ∷ k) rest)
+      ap (λ zs. lines_walk (front fs (AtLine s w)) at zs) (append_assoc (spaces n) (35 ∷ k) rest)
       ∙ (spaces_line n fs s w at (35 ∷ (k ++ rest))
       ∙ (goes fs (AtLine s w) (front fs (InComment (ended w))) m 35 (k ++ rest) refl (line_hash fs s w m (k ++ rest))
       ∙ (comment_goes text fs (ended w) (m + len_utf8 35) rest h
-      ∙ ap (λ p. walk (front fs (AtLine p (ended w))) p rest) (sym (past_append (spaces n) (35 ∷ k) at)))));
+      ∙ ap (λ p. lines_walk (front fs (AtLine p (ended w))) p rest) (sym (past_append (spaces n) (35 ∷ k) at)))));
 }
 
 pub gaps_read : (es : List Ending) (fs : List Frame) (s : ℕ) (w : Waiting) (at : ℕ) → s ≡ at → AreGaps es → Reads (front fs (AtLine s w)) at (spell_gaps es) fs (value_so_far w)
-gaps_read [] fs s w at same h = record { wait = w; is = refl; run = λ rest. ap (λ m. walk (front fs (AtLine m w)) at rest) same }
+gaps_read [] fs s w at same h = record { wait = w; is = refl; run = λ rest. ap (λ m. lines_walk (front fs (AtLine m w)) at rest) same }
 gaps_read (e ∷ es) fs s w at same h =
     let r : Reads (front fs (AtLine s w)) at (spell_ending e) fs (value_so_far w) = gap_reads e fs s w at h.0 in
     let m : ℕ = past at (spell_ending e) in
@@ -125,7 +127,7 @@ value_hash fs s m at rest = refl
 
 -- spaces before the end of a line
 pub value_spaces : (n : ℕ) (fs : List Frame) (s : ℕ) (m sp : Bool) (at : ℕ) (rest : List ℕ)
-    → walk (front fs (AtValue s m sp)) at (spaces n ++ rest) ≡ walk (front fs (AtValue s m (spaced_by sp n))) (past at (spaces n)) rest
+    → lines_walk (front fs (AtValue s m sp)) at (spaces n ++ rest) ≡ lines_walk (front fs (AtValue s m (spaced_by sp n))) (past at (spaces n)) rest
 value_spaces zero fs s m sp at rest = refl
 value_spaces (suc n) fs s m sp at rest = some_spaces n fs s m sp at rest
 
@@ -134,10 +136,10 @@ unfoldable pub nothing_reads : (e : Ending) (fs : List Frame) (s : ℕ) (m sp : 
 nothing_reads (Bare n) fs s m sp at h a = record {
   wait = Nothing;
   is = refl;
-  run = λ rest. ap (λ zs. walk (front fs (AtValue s m sp)) at zs) (append_assoc (spaces n) (10 ∷ []) rest)
+  run = λ rest. ap (λ zs. lines_walk (front fs (AtValue s m sp)) at zs) (append_assoc (spaces n) (10 ∷ []) rest)
       ∙ (value_spaces n fs s m sp at (10 ∷ rest)
       ∙ (goes fs (AtValue s m (spaced_by sp n)) (front fs (AtLine (past at (spaces n) + 1) Nothing)) (past at (spaces n)) 10 rest refl (value_feed fs s m (spaced_by sp n) (past at (spaces n)) rest)
-      ∙ ap (λ p. walk (front fs (AtLine p Nothing)) p rest) (sym (past_append (spaces n) (10 ∷ []) at))));
+      ∙ ap (λ p. lines_walk (front fs (AtLine p Nothing)) p rest) (sym (past_append (spaces n) (10 ∷ []) at))));
 }
 nothing_reads (Noted zero text) fs s m sp at h a = absurd (omega arith)
 nothing_reads (Noted (suc n) text) fs s m sp at h a = record {
@@ -146,76 +148,77 @@ nothing_reads (Noted (suc n) text) fs s m sp at h a = record {
   run = λ rest.
       let p : ℕ = past at (spaces (suc n)) in
       let k : List ℕ = text ++ 10 ∷ [] in
-      ap (λ zs. walk (front fs (AtValue s m sp)) at zs) (append_assoc (spaces (suc n)) (35 ∷ k) rest)
+      ap (λ zs. lines_walk (front fs (AtValue s m sp)) at zs) (append_assoc (spaces (suc n)) (35 ∷ k) rest)
       ∙ (some_spaces n fs s m sp at (35 ∷ (k ++ rest))
       ∙ (goes fs (AtValue s m true) (front fs (InComment Nothing)) p 35 (k ++ rest) refl (value_hash fs s m p (k ++ rest))
       ∙ (comment_goes text fs Nothing (p + len_utf8 35) rest h
-      ∙ ap (λ q. walk (front fs (AtLine q Nothing)) q rest) (sym (past_append (spaces (suc n)) (35 ∷ k) at)))));
+      ∙ ap (λ q. lines_walk (front fs (AtLine q Nothing)) q rest) (sym (past_append (spaces (suc n)) (35 ∷ k) at)))));
 }
 
 -- ---- scalars
 
-abbrev pub folds : List ℕ → Folding
-folds x = record { text = x; blanks = []; seam = Folds; feeds = [] }
-
-pub plain_feed : (fs : List Frame) (x b : List ℕ) (r : Role) (begun : ℕ) (sp : Bool) (at : ℕ) (rest : List ℕ) → is_key_only r ≡ false
-    → taken fs (InPlain (on_line x b) r begun sp) at 10 rest ≡ Ok (front fs (AtLine (at + 1) (Going (folds x))))
+pub plain_feed : (fs : List Frame) (t : Folding) (r : Role) (begun : ℕ) (sp : Bool) (at : ℕ) (rest : List ℕ) → is_key_only r ≡ false
+    → taken fs (InPlain t r begun sp) at 10 rest ≡ Ok (front fs (AtLine (at + 1) (Going (end_line t))))
 unfolding taken in_plain
-plain_feed fs x b r begun sp at rest k = rw k refl
+plain_feed fs t r begun sp at rest k = rw k refl
 
-plain_hash : (fs : List Frame) (x b : List ℕ) (r : Role) (begun at : ℕ) (rest : List ℕ) → is_key_only r ≡ false
-    → taken fs (InPlain (on_line x b) r begun true) at 35 rest ≡ Ok (front fs (InComment (Whole (scalar_of x))))
+pub plain_hash : (fs : List Frame) (t : Folding) (r : Role) (begun at : ℕ) (rest : List ℕ) → is_key_only r ≡ false
+    → taken fs (InPlain t r begun true) at 35 rest ≡ Ok (front fs (InComment (Whole (scalar_of t.text))))
 unfolding taken in_plain
-plain_hash fs x b r begun at rest k = rw k refl
+plain_hash fs t r begun at rest k = rw k refl
 
 -- behind a plain text
-pub plain_ends : (e : Ending) (fs : List Frame) (x : List ℕ) (r : Role) (begun at : ℕ) → is_key_only r ≡ false → IsEnding e → IsApart e
-    → Reads (front fs (InPlain (on_line x []) r begun false)) at (spell_ending e) fs (scalar_of x)
-plain_ends (Bare n) fs x r begun at k h a = record {
-  wait = Going (folds x);
-  is = refl;
-  run = λ rest. ap (λ zs. walk (front fs (InPlain (on_line x []) r begun false)) at zs) (append_assoc (spaces n) (10 ∷ []) rest)
-      ∙ (spaces_plain n fs x [] r begun false at (10 ∷ rest)
-      ∙ (goes fs (InPlain (on_line x (spaces n)) r begun (spaced_by false n)) (front fs (AtLine (past at (spaces n) + 1) (Going (folds x)))) (past at (spaces n)) 10 rest refl
-      (plain_feed fs x (spaces n) r begun (spaced_by false n) (past at (spaces n)) rest k)
-      ∙ ap (λ p. walk (front fs (AtLine p (Going (folds x)))) p rest) (sym (past_append (spaces n) (10 ∷ []) at))));
-}
-plain_ends (Noted zero text) fs x r begun at k h a = absurd (omega arith)
-plain_ends (Noted (suc n) text) fs x r begun at k h a = record {
-  wait = Whole (scalar_of x);
-  is = refl;
-  run = λ rest.
-      let p : ℕ = past at (spaces (suc n)) in
-      let t : List ℕ = text ++ 10 ∷ [] in
-      ap (λ zs. walk (front fs (InPlain (on_line x []) r begun false)) at zs) (append_assoc (spaces (suc n)) (35 ∷ t) rest)
-      ∙ (spaces_plain (suc n) fs x [] r begun false at (35 ∷ (t ++ rest))
-      ∙ (goes fs (InPlain (on_line x (spaces (suc n))) r begun true) (front fs (InComment (Whole (scalar_of x)))) p 35 (t ++ rest) refl
-      (plain_hash fs x (spaces (suc n)) r begun p (t ++ rest) k)
-      ∙ (comment_goes text fs (Whole (scalar_of x)) (p + len_utf8 35) rest h
-      ∙ ap (λ q. walk (front fs (AtLine q (Whole (scalar_of x)))) q rest) (sym (past_append (spaces (suc n)) (35 ∷ t) at)))));
-}
+unfoldable pub plain_ends : (e : Ending) (fs : List Frame) (t : Folding) (r : Role) (begun : ℕ) (sp : Bool) (at : ℕ) → is_key_only r ≡ false → IsEnding e → IsApart e
+    → Reads (front fs (InPlain t r begun sp)) at (spell_ending e) fs (scalar_of t.text)
+plain_ends (Bare n) fs t r begun sp at k h a =
+    let u : Folding = with_chars t (spaces n) in
+    record {
+      wait = Going (end_line u);
+      is = ap scalar_of (end_line_text u ∙ spaces_text n t);
+      run = λ rest. ap (λ zs. lines_walk (front fs (InPlain t r begun sp)) at zs) (append_assoc (spaces n) (10 ∷ []) rest)
+          ∙ (spaces_plain n fs t r begun sp at (10 ∷ rest)
+          ∙ (goes fs (InPlain u r begun (spaced_by sp n)) (front fs (AtLine (past at (spaces n) + 1) (Going (end_line u)))) (past at (spaces n)) 10 rest refl
+          (plain_feed fs u r begun (spaced_by sp n) (past at (spaces n)) rest k)
+          ∙ ap (λ p. lines_walk (front fs (AtLine p (Going (end_line u)))) p rest) (sym (past_append (spaces n) (10 ∷ []) at))));
+    }
+plain_ends (Noted zero text) fs t r begun sp at k h a = absurd (omega arith)
+plain_ends (Noted (suc n) text) fs t r begun sp at k h a =
+    let u : Folding = with_chars t (spaces (suc n)) in
+    let w : Waiting = Whole (scalar_of u.text) in
+    record {
+      wait = w;
+      is = ap scalar_of (spaces_text (suc n) t);
+      run = λ rest.
+          let p : ℕ = past at (spaces (suc n)) in
+          let x : List ℕ = text ++ 10 ∷ [] in
+          ap (λ zs. lines_walk (front fs (InPlain t r begun sp)) at zs) (append_assoc (spaces (suc n)) (35 ∷ x) rest)
+          ∙ (spaces_plain (suc n) fs t r begun sp at (35 ∷ (x ++ rest))
+          ∙ (goes fs (InPlain u r begun true) (front fs (InComment w)) p 35 (x ++ rest) refl (plain_hash fs u r begun p (x ++ rest) k)
+          ∙ (comment_goes text fs w (p + len_utf8 35) rest h
+          ∙ ap (λ q. lines_walk (front fs (AtLine q w)) q rest) (sym (past_append (spaces (suc n)) (35 ∷ x) at)))));
+    }
 
-quoted_feed : (fs : List Frame) (x : List ℕ) (r : Role) (begun : ℕ) (sp : Bool) (at : ℕ) (rest : List ℕ) → is_key_only r ≡ false
+pub quoted_feed : (fs : List Frame) (x : List ℕ) (r : Role) (begun : ℕ) (sp : Bool) (at : ℕ) (rest : List ℕ) → is_key_only r ≡ false
     → taken fs (AfterQuoted x r begun sp) at 10 rest ≡ Ok (front fs (AtLine (at + 1) (Whole (a_text x))))
 unfolding taken in_after_quoted in_after_value
 quoted_feed fs x r begun sp at rest k = rw k refl
 
-quoted_hash : (fs : List Frame) (x : List ℕ) (r : Role) (begun at : ℕ) (rest : List ℕ) → is_key_only r ≡ false
+pub quoted_hash : (fs : List Frame) (x : List ℕ) (r : Role) (begun at : ℕ) (rest : List ℕ) → is_key_only r ≡ false
     → taken fs (AfterQuoted x r begun true) at 35 rest ≡ Ok (front fs (InComment (Whole (a_text x))))
 unfolding taken in_after_quoted in_after_value
 quoted_hash fs x r begun at rest k = rw k refl
 
 -- behind a quoted text
-pub quoted_ends : (e : Ending) (fs : List Frame) (x : List ℕ) (r : Role) (begun at : ℕ) → is_key_only r ≡ false → IsEnding e → IsApart e
+unfoldable pub quoted_ends : (e : Ending) (fs : List Frame) (x : List ℕ) (r : Role) (begun at : ℕ) → is_key_only r ≡ false → IsEnding e → IsApart e
     → Reads (front fs (AfterQuoted x r begun false)) at (spell_ending e) fs (a_text x)
 quoted_ends (Bare n) fs x r begun at k h a = record {
   wait = Whole (a_text x);
   is = refl;
-  run = λ rest. ap (λ zs. walk (front fs (AfterQuoted x r begun false)) at zs) (append_assoc (spaces n) (10 ∷ []) rest)
+  run = λ rest. ap (λ zs. lines_walk (front fs (AfterQuoted x r begun false)) at zs) (append_assoc (spaces n) (10 ∷ []) rest)
       ∙ (spaces_quoted n fs x r begun false at (10 ∷ rest)
       ∙ (goes fs (AfterQuoted x r begun (spaced_by false n)) (front fs (AtLine (past at (spaces n) + 1) (Whole (a_text x)))) (past at (spaces n)) 10 rest refl
       (quoted_feed fs x r begun (spaced_by false n) (past at (spaces n)) rest k)
-      ∙ ap (λ p. walk (front fs (AtLine p (Whole (a_text x)))) p rest) (sym (past_append (spaces n) (10 ∷ []) at))));
+      ∙ ap (λ p. lines_walk (front fs (AtLine p (Whole (a_text x)))) p rest) (sym (past_append (spaces n) (10 ∷ []) at))));
 }
 quoted_ends (Noted zero text) fs x r begun at k h a = absurd (omega arith)
 quoted_ends (Noted (suc n) text) fs x r begun at k h a = record {
@@ -224,34 +227,28 @@ quoted_ends (Noted (suc n) text) fs x r begun at k h a = record {
   run = λ rest.
       let p : ℕ = past at (spaces (suc n)) in
       let t : List ℕ = text ++ 10 ∷ [] in
-      ap (λ zs. walk (front fs (AfterQuoted x r begun false)) at zs) (append_assoc (spaces (suc n)) (35 ∷ t) rest)
+      ap (λ zs. lines_walk (front fs (AfterQuoted x r begun false)) at zs) (append_assoc (spaces (suc n)) (35 ∷ t) rest)
       ∙ (spaces_quoted (suc n) fs x r begun false at (35 ∷ (t ++ rest))
       ∙ (goes fs (AfterQuoted x r begun true) (front fs (InComment (Whole (a_text x)))) p 35 (t ++ rest) refl
       (quoted_hash fs x r begun p (t ++ rest) k)
       ∙ (comment_goes text fs (Whole (a_text x)) (p + len_utf8 35) rest h
-      ∙ ap (λ q. walk (front fs (AtLine q (Whole (a_text x)))) q rest) (sym (past_append (spaces (suc n)) (35 ∷ t) at)))));
+      ∙ ap (λ q. lines_walk (front fs (AtLine q (Whole (a_text x)))) q rest) (sym (past_append (spaces (suc n)) (35 ∷ t) at)))));
 }
 
 -- ---- where texts begin
 
-pub record BeginFacts (c : ℕ) : Type 0 where
-  pub plain : PlainFacts c
+pub record BeginFacts (ended : Bool) (c : ℕ) (cs : List ℕ) : Type 0 where
+  pub feed : (c == 10) ≡ false
+  pub return : (c == 13) ≡ false
+  pub space : (c == 32) ≡ false
   pub double : (c == 34) ≡ false
   pub single : (c == 39) ≡ false
-  pub dash : (c == 45) ≡ false
-  pub question : (c == 63) ≡ false
-  pub bar : (c == 124) ≡ false
-  pub greater : (c == 62) ≡ false
-  pub anchor : (c == 38) ≡ false
-  pub star : (c == 42) ≡ false
-  pub tag : (c == 33) ≡ false
-  pub percent : (c == 37) ≡ false
-  pub at_sign : (c == 64) ≡ false
-  pub backquote : (c == 96) ≡ false
-  pub dot : (c == 46) ≡ false
+  pub value : is_value_sign c ≡ false
+  pub nothing : begins_nothing c ≡ false
+  pub word : (is_word_sign c && word_ends ended cs) ≡ false
 
-pub begin_facts : (c : ℕ) → begins_plain c ≡ true → BeginFacts c
-begin_facts c h =
+pub begin_facts : (ended : Bool) (c : ℕ) (cs : List ℕ) → begins_plain ended c cs ≡ true → BeginFacts ended c cs
+begin_facts ended c cs h =
     let a = and_parts _ _ h in
     let b = and_parts _ _ a.0 in
     let d = and_parts _ _ b.0 in
@@ -259,59 +256,22 @@ begin_facts c h =
     let f = and_parts _ _ e.0 in
     let g = and_parts _ _ f.0 in
     let i = and_parts _ _ g.0 in
-    let j = and_parts _ _ i.0 in
-    let k = and_parts _ _ j.0 in
-    let l = and_parts _ _ k.0 in
-    let m = and_parts _ _ l.0 in
-    let n = and_parts _ _ m.0 in
-    let o = and_parts _ _ n.0 in
-    record {
-      plain = plain_facts c o.0;
-      double = not_true _ o.1;
-      single = not_true _ n.1;
-      dash = not_true _ m.1;
-      question = not_true _ l.1;
-      bar = not_true _ k.1;
-      greater = not_true _ j.1;
-      anchor = not_true _ i.1;
-      star = not_true _ g.1;
-      tag = not_true _ f.1;
-      percent = not_true _ e.1;
-      at_sign = not_true _ d.1;
-      backquote = not_true _ b.1;
-      dot = not_true _ a.1;
-    }
+    record { feed = not_true _ i.0; return = not_true _ i.1; space = not_true _ g.1; double = not_true _ f.1; single = not_true _ e.1; value = not_true _ d.1; nothing = not_true _ b.1; word = not_true _ a.1 }
 
-pub plain_begins : (fs : List Frame) (r : Role) (at c : ℕ) (rest : List ℕ) → BeginFacts c → begin_value fs r at c rest ≡ Ok (front fs (InPlain (on_line (encode_utf8 c) []) r at false))
+pub plain_begins : (fs : List Frame) (r : Role) (at : ℕ) (flow ended : Bool) (c : ℕ) (cs rest : List ℕ) → BeginFacts ended c cs → stays_plain flow false ended cs ≡ true → ends_word rest ≡ ended
+    → begin_value fs r at c (cs ++ rest) ≡ Ok (front fs (InPlain (with_char nothing_yet c) r at false))
 unfolding begin_value
-plain_begins fs r at c rest f =
-    rw (
-      f.double,
-      f.single,
-      f.dash,
-      f.question,
-      f.plain.colon,
-      f.plain.left,
-      f.bar,
-      f.greater,
-      f.anchor,
-      f.star,
-      f.tag,
-      f.percent,
-      f.plain.left_brace,
-      f.plain.comma,
-      f.plain.right,
-      f.plain.right_brace,
-      f.plain.hash,
-      f.at_sign,
-      f.backquote,
-      f.plain.tab,
-    )
-    (let g : Folding → Result Front Broken = λ t. Ok (front fs (InPlain t r at false)) in ap g (put_char [] [] c))
+plain_begins fs r at flow ended c cs rest f l w =
+    let e : ends_word (cs ++ rest) ≡ word_ends ended cs = next_word cs rest flow false ended l w in
+    rw (f.double, f.single, e, f.word, f.value, f.nothing, f.feed, f.space) (elim (cases_Bool (c == 9)) [ inl h ↦ rw h refl | inr h ↦ rw h refl ])
 
 pub quote_begins : (fs : List Frame) (r : Role) (at : ℕ) (rest : List ℕ) → begin_value fs r at 34 rest ≡ Ok (front fs (InDouble nothing_yet r at))
 unfolding begin_value
 quote_begins fs r at rest = refl
+
+pub single_begins : (fs : List Frame) (r : Role) (at : ℕ) (rest : List ℕ) → begin_value fs r at 39 rest ≡ Ok (front fs (InSingle nothing_yet r at))
+unfolding begin_value
+single_begins fs r at rest = refl
 
 -- the first character where a value may begin, behind a space
 abbrev pub role_of : (m : Bool) (column : ℕ) → Role
@@ -321,48 +281,50 @@ pub no_key : (m : Bool) (column : ℕ) → is_key_only (role_of m column) ≡ fa
 no_key true column = refl
 no_key false column = refl
 
-pub plain_value : (fs : List Frame) (s : ℕ) (m sp : Bool) (at c : ℕ) (rest : List ℕ) → BeginFacts c
-    → taken fs (AtValue s m sp) at c rest ≡ Ok (front fs (InPlain (on_line (encode_utf8 c) []) (role_of m (at - s)) at false))
-unfolding taken in_at_value
-plain_value fs s m sp at c rest f = rw (f.plain.space, f.plain.feed, f.plain.hash, f.plain.right) (plain_begins fs (role_of m (at - s)) at c rest f)
+-- a value begins with the first of these characters, and they are read
+abbrev pub begin_run : List Frame → Role → ℕ → List ℕ → Result Front Broken
+begin_run fs role at [] = no_text at
+begin_run fs role at (c ∷ cs) = begin_value fs role at c cs >>= λ g. lines_walk g (at + len_utf8 c) cs
 
-pub quoted_value : (fs : List Frame) (s : ℕ) (m sp : Bool) (at : ℕ) (rest : List ℕ)
-    → taken fs (AtValue s m sp) at 34 rest ≡ Ok (front fs (InDouble nothing_yet (role_of m (at - s)) at))
-unfolding taken in_at_value
-quoted_value fs s m sp at rest = quote_begins fs (role_of m (at - s)) at rest
+pub begun : (fs : List Frame) (role : Role) (g : Front) (at c : ℕ) (cs : List ℕ) → begin_value fs role at c cs ≡ Ok g → begin_run fs role at (c ∷ cs) ≡ lines_walk g (at + len_utf8 c) cs
+begun fs role g at c cs e = ap (λ (r : Result Front Broken). r >>= λ h. lines_walk h (at + len_utf8 c) cs) e
 
-pub first_facts : (ws : Words) → AreWords ws → BeginFacts (first_of ws)
-first_facts (Word c cs) h = begin_facts c h.0
-first_facts (Then ws n c cs) h = first_facts ws h.0
+-- texts from their first character to behind their last
+pub line_goes : (c : ℕ) (cs : List ℕ) (fs : List Frame) (role : Role) (flow ended : Bool) (at : ℕ) (rest : List ℕ) → begins_plain ended c cs ≡ true → stays_plain flow false ended cs ≡ true → is_flow fs ≡ flow → ends_word rest ≡ ended
+    → begin_run fs role at ((c ∷ cs) ++ rest) ≡ lines_walk (front fs (InPlain (with_chars nothing_yet (c ∷ cs)) role at (spaced_after false cs))) (past at (c ∷ cs)) rest
+line_goes c cs fs role flow ended at rest b l f w =
+    begun fs role (front fs (InPlain (with_char nothing_yet c) role at false)) at c (cs ++ rest) (plain_begins fs role at flow ended c cs rest (begin_facts ended c cs b) l w)
+    ∙ chars_go cs fs (with_char nothing_yet c) role at flow false ended (at + len_utf8 c) rest l f w
 
--- a scalar behind a space
-pub leaf_reads : (leaf : Scalar) (e : Ending) (fs : List Frame) (s : ℕ) (m : Bool) (at : ℕ) → IsScalarText leaf → IsEnding e → IsApart e
-    → Reads (front fs (AtValue s m true)) at (spell_scalar leaf ++ spell_ending e) fs (scalar_value leaf)
-leaf_reads (Plain ws) e fs s m at l h a =
-    let c : ℕ = first_of ws in
-    let cs : List ℕ = behind_first ws in
-    let r : Role = role_of m (at - s) in
-    let x : List ℕ = encode_utf8 c ++ encode_utf8_all cs in
-    let f : BeginFacts c = first_facts ws l in
-    let q : Reads (front fs (InPlain (on_line x []) r at false)) (past at (c ∷ cs)) (spell_ending e) fs (scalar_of x) = plain_ends e fs x r at (past at (c ∷ cs)) (no_key m (at - s)) h a in
-    let step : (rest : List ℕ) → walk (front fs (AtValue s m true)) at ((c ∷ cs) ++ rest) ≡ walk (front fs (InPlain (on_line x []) r at false)) (past at (c ∷ cs)) rest
-    = λ rest. goes fs (AtValue s m true) (front fs (InPlain (on_line (encode_utf8 c) []) r at false)) at c (cs ++ rest) f.plain.return (plain_value fs s m true at c (cs ++ rest) f)
-    ∙ words_go ws fs (encode_utf8 c) r at (at + len_utf8 c) rest l in
-    let whole : Reads (front fs (AtValue s m true)) at ((c ∷ cs) ++ spell_ending e) fs (scalar_of x) = reads_behind (front fs (AtValue s m true)) (front fs (InPlain (on_line x []) r at false)) at (c ∷ cs) (spell_ending e) fs (scalar_of x) step q in
-    let P : List ℕ → Type 0 = λ ys. Reads (front fs (AtValue s m true)) at (ys ++ spell_ending e) fs (scalar_of (encode_utf8_all ys)) in
-    subst P (sym (words_parts ws)) whole
-leaf_reads (Double xs) e fs s m at l h a =
-    let ys : List ℕ = 34 ∷ (spell_inners xs ++ 34 ∷ []) in
-    let r : Role = role_of m (at - s) in
-    let q : Reads (front fs (AfterQuoted (inner_text xs) r at false)) (past at ys) (spell_ending e) fs (a_text (inner_text xs)) = quoted_ends e fs (inner_text xs) r at (past at ys) (no_key m (at - s)) h a in
-    reads_behind (front fs (AtValue s m true)) (front fs (AfterQuoted (inner_text xs) r at false)) at ys (spell_ending e) fs (a_text (inner_text xs))
-    (λ rest. goes fs (AtValue s m true) (front fs (InDouble nothing_yet r at)) at 34 ((spell_inners xs ++ 34 ∷ []) ++ rest) refl (quoted_value fs s m true at ((spell_inners xs ++ 34 ∷ []) ++ rest))
-    ∙ quoted_goes xs fs r at (at + len_utf8 34) rest l)
-    q
+pub double_goes : (xs : List Inner) (fs : List Frame) (role : Role) (at : ℕ) (rest : List ℕ) → list_all is_inner_quoted xs ≡ true → MayEnd is_line_end role xs
+    → begin_run fs role at (spell_scalar (Double xs) ++ rest) ≡ lines_walk (front fs (AfterQuoted (double_text xs) (role_then is_line_end role xs) at false)) (past at (spell_scalar (Double xs))) rest
+double_goes xs fs role at rest l m =
+    let ys : List ℕ = spell_inners xs ++ 34 ∷ [] in
+    begun fs role (front fs (InDouble nothing_yet role at)) at 34 (ys ++ rest) (quote_begins fs role at (ys ++ rest)) ∙ quoted_goes xs fs role at (at + len_utf8 34) rest l m
 
--- a scalar on the line of its key or dash
-pub scalar_reads : (n : ℕ) (leaf : Scalar) (e : Ending) (fs : List Frame) (s : ℕ) (m sp : Bool) (at : ℕ) → IsScalarText leaf → IsEnding e → IsApart e
-    → Reads (front fs (AtValue s m sp)) at (spaces (suc n) ++ (spell_scalar leaf ++ spell_ending e)) fs (scalar_value leaf)
-scalar_reads n leaf e fs s m sp at l h a =
-    reads_behind (front fs (AtValue s m sp)) (front fs (AtValue s m true)) at (spaces (suc n)) (spell_scalar leaf ++ spell_ending e) fs (scalar_value leaf)
-    (λ rest. some_spaces n fs s m sp at rest) (leaf_reads leaf e fs s m (past at (spaces (suc n))) l h a)
+pub singled_goes : (cs : List ℕ) (fs : List Frame) (role : Role) (at : ℕ) (rest : List ℕ) → list_all no_return cs ≡ true → MayEnd is_feed role cs → begins_with 39 rest ≡ false
+    → begin_run fs role at (spell_scalar (Single cs) ++ rest) ≡ lines_walk (front fs (AfterQuoted (single_text cs) (role_then is_feed role cs) at false)) (past at (spell_scalar (Single cs))) rest
+singled_goes cs fs role at rest l m q =
+    let ys : List ℕ = spell_singles cs ++ 39 ∷ [] in
+    begun fs role (front fs (InSingle nothing_yet role at)) at 39 (ys ++ rest) (single_begins fs role at (ys ++ rest)) ∙ single_goes cs fs role at (at + len_utf8 39) rest l m q
+
+-- a value that begins, up to the start of a line
+pub record Begun (fs : List Frame) (role : Role) (at : ℕ) (xs : List ℕ) (v : Value) : Type 0 where
+  pub wait : Waiting
+  pub is : value_so_far wait ≡ v
+  pub run : (rest : List ℕ) → begin_run fs role at (xs ++ rest) ≡ lines_walk (front fs (AtLine (past at xs) wait)) (past at xs) rest
+
+pub begun_behind : (fs : List Frame) (role : Role) (g : Front) (at : ℕ) (xs ys : List ℕ) (v : Value)
+    → ((rest : List ℕ) → begin_run fs role at (xs ++ (ys ++ rest)) ≡ lines_walk g (past at xs) (ys ++ rest)) → Reads g (past at xs) ys fs v → Begun fs role at (xs ++ ys) v
+begun_behind fs role g at xs ys v step r = record {
+  wait = r.wait;
+  is = r.is;
+  run = λ rest. ap (λ zs. begin_run fs role at zs) (append_assoc xs ys rest) ∙ (step rest ∙ (r.run rest ∙ ap (λ m. lines_walk (front fs (AtLine m r.wait)) m rest) (sym (past_append xs ys at))));
+}
+
+-- and lines without content behind it
+pub begun_gaps : (es : List Ending) (fs : List Frame) (role : Role) (at : ℕ) (xs : List ℕ) (v : Value) → AreGaps es → Begun fs role at xs v → Begun fs role at (xs ++ spell_gaps es) v
+begun_gaps es fs role at xs v h r =
+    let m : ℕ = past at xs in
+    let q : Reads (front fs (AtLine m r.wait)) m (spell_gaps es) fs (value_so_far r.wait) = gaps_read es fs m r.wait m refl h in
+    begun_behind fs role (front fs (AtLine m r.wait)) at xs (spell_gaps es) v (λ rest. r.run (spell_gaps es ++ rest)) (reads_same (front fs (AtLine m r.wait)) m (spell_gaps es) fs (value_so_far r.wait) v r.is q)

@@ -1,14 +1,11 @@
 -- What is open behind a block of a written file, and how it ends at the next line.
-use Rattle.std.proofs.Common.{◌≡◌, ℕ, suc, ◌-◌, ◌<◌, ◌≤◌, Bool, true, false, nat_lt, List, [], ◌∷◌, ◌++◌, ◌⊎◌, refl, subst, ◌∙◌, arith, inl, inr}
+use Rattle.std.proofs.Common.{◌≡◌, ℕ, suc, ◌-◌, ◌<◌, ◌≤◌, Bool, true, false, nat_lt, List, [], ◌∷◌, ◌++◌, ◌⊎◌, Option, Some, None, refl, subst, ◌∙◌, arith, inl, inr}
 use Rattle.std.proofs.lemmas.Bool.{cases_Bool}
 use Rattle.std.proofs.lemmas.Bool.Decides.{nat_tests}
-use Rattle.edt_base.specs.YamlData.{Value, a_map, a_list, a_text, null, items_from}
-use Rattle.std.specs.Str.{encode_utf8_all}
-use Rattle.yaml_profile.specs.Scalars.{scalar_of}
-use Rattle.yaml_profile.specs.BlockText.{block_text}
+use Rattle.edt_base.specs.YamlData.{Value, a_map, a_list, null, items_from}
 use Rattle.yaml_profile.specs.Fronts.{Frame, InMap, InList, closed, pairs_of, all_closed, is_flow, is_deeper, is_map_at}
 use Rattle.yaml_profile.specs.Layout.{settle, ends_block, next_entry, is_dash}
-use Rattle.yaml_profile.specs.Written.{key_text, Node, Nothing, OnLine, Scalars, Paragraph, Below, Block, Map, Dashes, Entries, First, Next, Items, FirstItem, NextItem, Item, Of, MapOnLine, item_column, text_of, spell_words, further_text, flow_value, keys_of, node_value, block_value, entry_values, item_values, item_value, IsNode, AreEntries, AreItems, IsItem, IsWithin}
+use Rattle.yaml_profile.specs.Written.{key_text, Leaf, leaf_value, Node, Nothing, Beside, Below, Block, Map, Dashes, Alone, Entries, First, Next, Items, FirstItem, NextItem, Item, Of, MapOnLine, item_column, keys_of, node_value, block_value, entry_values, item_values, item_value, IsNode, AreEntries, AreItems, IsItem, IsWithin}
 use Rattle.yaml_profile.proofs.WrittenKeys.{lt_true, lt_false, eq_self}
 
 -- the values of the entries before the last
@@ -24,14 +21,13 @@ abbrev mutual
   -- the collections that are open behind these, on those around them
   pub open_node : Node → List Frame → List Frame
   open_node (Nothing e gaps) fs = fs
-  open_node (OnLine n leaf e gaps) fs = fs
-  open_node (Scalars n l) fs = fs
-  open_node (Paragraph n ws ls e gaps) fs = fs
+  open_node (Beside n l) fs = fs
   open_node (Below e gaps b) fs = open_block b fs
 
   pub open_block : Block → List Frame → List Frame
   open_block (Map column es) fs = open_entries column es fs
   open_block (Dashes column is) fs = open_items column is fs
+  open_block (Alone column l) fs = fs
 
   pub open_entries : ℕ → Entries → List Frame → List Frame
   open_entries column (First k x) fs = open_node x (InMap column (key_text k ∷ []) [] ∷ fs)
@@ -49,14 +45,13 @@ abbrev mutual
   -- the innermost value, which was read last
   pub left_node : Node → Value
   left_node (Nothing e gaps) = null
-  left_node (OnLine n leaf e gaps) = flow_value leaf
-  left_node (Paragraph n ws ls e gaps) = scalar_of (encode_utf8_all (spell_words ws) ++ further_text ls)
-  left_node (Scalars n l) = a_text (block_text (text_of l))
+  left_node (Beside n l) = leaf_value l
   left_node (Below e gaps b) = left_block b
 
   pub left_block : Block → Value
   left_block (Map column es) = left_entries es
   left_block (Dashes column is) = left_items is
+  left_block (Alone column l) = leaf_value l
 
   pub left_entries : Entries → Value
   left_entries (First k x) = left_node x
@@ -94,23 +89,26 @@ pub within_list : (column own : ℕ) (in_map : Bool) (is : Items) → IsWithin c
 within_list column own true is h = h
 within_list column own false is h = omega arith
 
+pub within_alone : (column own : ℕ) (in_map : Bool) (l : Leaf) → IsWithin column in_map (Alone own l) → column < own
+within_alone column own true l h = h
+within_alone column own false l h = h
+
 mutual
   pub over_node : (x : Node) (fs : List Frame) (column : ℕ) (in_map : Bool) (level n : ℕ) (dash : Bool) → IsNode column in_map level x → n ≤ column → Over n dash fs → Over n dash (open_node x fs)
   over_node (Nothing e gaps) fs column in_map level n dash h l o = o
-  over_node (OnLine m leaf e gaps) fs column in_map level n dash h l o = o
-  over_node (Paragraph m ws ls e gaps) fs column in_map level n dash h l o = o
-  over_node (Scalars m t) fs column in_map level n dash h l o = o
+  over_node (Beside m x) fs column in_map level n dash h l o = o
   over_node (Below e gaps (Map own es)) fs column in_map level n dash h l o =
       let w : column < own = within_map column own in_map es h.3 in
-      over_entries es own fs (suc level) n dash h.4.1 (omega arith) (λ ks vs. over_map n own dash ks vs fs (omega arith))
+      over_entries es own fs (suc level) n dash (Some own) h.4.1 (omega arith) (λ ks vs. over_map n own dash ks vs fs (omega arith))
   over_node (Below e gaps (Dashes own is)) fs column in_map level n dash h l o =
       let w : column ≤ own = within_list column own in_map is h.3 in
       over_items is own fs (suc level) n dash h.4.1 (omega arith)
+  over_node (Below e gaps (Alone own x)) fs column in_map level n dash h l o = o
 
-  pub over_entries : (es : Entries) (own : ℕ) (fs : List Frame) (level n : ℕ) (dash : Bool) → AreEntries own level es → n ≤ own
+  pub over_entries : (es : Entries) (own : ℕ) (fs : List Frame) (level n : ℕ) (dash : Bool) (place : Option ℕ) → AreEntries place own level es → n ≤ own
       → ((ks : List (List ℕ)) (vs : List Value) → Over n dash (InMap own ks vs ∷ fs)) → Over n dash (open_entries own es fs)
-  over_entries (First k x) own fs level n dash h l o = over_node x (InMap own (key_text k ∷ []) [] ∷ fs) own true level n dash h.1 l (o (key_text k ∷ []) [])
-  over_entries (Next es k x) own fs level n dash h l o =
+  over_entries (First k x) own fs level n dash place h l o = over_node x (InMap own (key_text k ∷ []) [] ∷ fs) own true level n dash h.1 l (o (key_text k ∷ []) [])
+  over_entries (Next es k x) own fs level n dash place h l o =
       over_node x (InMap own (keys_of es ++ key_text k ∷ []) (entry_values es) ∷ fs) own true level n dash h.3 l (o (keys_of es ++ key_text k ∷ []) (entry_values es))
 
   pub over_items : (is : Items) (own : ℕ) (fs : List Frame) (level n : ℕ) (dash : Bool) → AreItems own level is → n ≤ own → Over n dash (open_items own is fs)
@@ -120,7 +118,7 @@ mutual
   pub over_item : (i : Item) (own : ℕ) (fs : List Frame) (level n : ℕ) (dash : Bool) → IsItem own level i → n ≤ own → Over n dash fs → Over n dash (open_item own i fs)
   over_item (Of x) own fs level n dash h l o = over_node x fs own false level n dash h l o
   over_item (MapOnLine m es) own fs level n dash h l o =
-      over_entries es (item_column own m) fs (suc level) n dash h.1 (omega arith) (λ ks vs. over_map n (item_column own m) dash ks vs fs (omega arith))
+      over_entries es (item_column own m) fs (suc level) n dash None h.1 (omega arith) (λ ks vs. over_map n (item_column own m) dash ks vs fs (omega arith))
 
 -- ---- what is open ends where something begins at a column that is no deeper
 
@@ -166,24 +164,23 @@ mutual
   pub shuts_node : (x : Node) (fs : List Frame) (column : ℕ) (in_map : Bool) (level s at n c : ℕ) (rest : List ℕ) → IsNode column in_map level x → at - s ≡ n → n ≤ column
       → SameColumn in_map column n c rest fs → settle (open_node x fs) (left_node x) s at c rest ≡ settle fs (node_value x) s at c rest
   shuts_node (Nothing e gaps) fs column in_map level s at n c rest h a l q = refl
-  shuts_node (OnLine m leaf e gaps) fs column in_map level s at n c rest h a l q = refl
-  shuts_node (Paragraph m ws ls e gaps) fs column in_map level s at n c rest h a l q = refl
-  shuts_node (Scalars m t) fs column in_map level s at n c rest h a l q = refl
+  shuts_node (Beside m x) fs column in_map level s at n c rest h a l q = refl
   shuts_node (Below e gaps (Map own es)) fs column in_map level s at n c rest h a l q =
       let w : column < own = within_map column own in_map es h.3 in
-      shuts_entries es own fs (suc level) s at n c rest h.4.1 a (omega arith)
+      shuts_entries es own fs (suc level) s at n c rest (Some own) h.4.1 a (omega arith)
   shuts_node (Below e gaps (Dashes own is)) fs column false level s at n c rest h a l q =
       shuts_items is own fs (suc level) s at n c rest h.4.1 a (omega arith) (λ vs. list_ends n own s at c rest vs fs a (omega arith))
   shuts_node (Below e gaps (Dashes own is)) fs column true level s at n c rest h a l q =
       shuts_items is own fs (suc level) s at n c rest h.4.1 a (omega arith) (λ vs. ends_there own fs column s at n c rest vs a l h.3 q)
+  shuts_node (Below e gaps (Alone own x)) fs column in_map level s at n c rest h a l q = refl
 
-  pub shuts_entries : (es : Entries) (own : ℕ) (fs : List Frame) (level s at n c : ℕ) (rest : List ℕ) → AreEntries own level es → at - s ≡ n → n < own
+  pub shuts_entries : (es : Entries) (own : ℕ) (fs : List Frame) (level s at n c : ℕ) (rest : List ℕ) (place : Option ℕ) → AreEntries place own level es → at - s ≡ n → n < own
       → settle (open_entries own es fs) (left_entries es) s at c rest ≡ settle fs (a_map (pairs_of (keys_of es) (entry_values es))) s at c rest
-  shuts_entries (First k x) own fs level s at n c rest h a l =
+  shuts_entries (First k x) own fs level s at n c rest place h a l =
       let f : Frame = InMap own (key_text k ∷ []) [] in
       shuts_node x (f ∷ fs) own true level s at n c rest h.1 a (omega arith) (λ e. absurd (omega arith))
       ∙ settle_closes f fs (node_value x) s at c rest (map_ends n own s at c rest (key_text k ∷ []) [] fs a l)
-  shuts_entries (Next es k x) own fs level s at n c rest h a l =
+  shuts_entries (Next es k x) own fs level s at n c rest place h a l =
       let f : Frame = InMap own (keys_of es ++ key_text k ∷ []) (entry_values es) in
       shuts_node x (f ∷ fs) own true level s at n c rest h.3 a (omega arith) (λ e. absurd (omega arith))
       ∙ settle_closes f fs (node_value x) s at c rest (map_ends n own s at c rest (keys_of es ++ key_text k ∷ []) (entry_values es) fs a l)
@@ -199,20 +196,19 @@ mutual
   pub shuts_item : (i : Item) (own : ℕ) (fs : List Frame) (level s at n c : ℕ) (rest : List ℕ) → IsItem own level i → at - s ≡ n → n ≤ own
       → settle (open_item own i fs) (left_item i) s at c rest ≡ settle fs (item_value i) s at c rest
   shuts_item (Of x) own fs level s at n c rest h a l = shuts_node x fs own false level s at n c rest h a l tt
-  shuts_item (MapOnLine m es) own fs level s at n c rest h a l = shuts_entries es (item_column own m) fs (suc level) s at n c rest h.1 a (omega arith)
+  shuts_item (MapOnLine m es) own fs level s at n c rest h a l = shuts_entries es (item_column own m) fs (suc level) s at n c rest None h.1 a (omega arith)
 
 mutual
   -- where the file ends all of it does
   pub closes_node : (x : Node) (fs : List Frame) → all_closed (open_node x fs) (left_node x) ≡ all_closed fs (node_value x)
   closes_node (Nothing e gaps) fs = refl
-  closes_node (OnLine m leaf e gaps) fs = refl
-  closes_node (Paragraph m ws ls e gaps) fs = refl
-  closes_node (Scalars m t) fs = refl
+  closes_node (Beside m x) fs = refl
   closes_node (Below e gaps b) fs = closes_block b fs
 
   pub closes_block : (b : Block) (fs : List Frame) → all_closed (open_block b fs) (left_block b) ≡ all_closed fs (block_value b)
   closes_block (Map own es) fs = closes_entries es own fs
   closes_block (Dashes own is) fs = closes_items is own fs
+  closes_block (Alone own l) fs = refl
 
   pub closes_entries : (es : Entries) (own : ℕ) (fs : List Frame) → all_closed (open_entries own es fs) (left_entries es) ≡ all_closed fs (a_map (pairs_of (keys_of es) (entry_values es)))
   closes_entries (First k x) own fs = closes_node x (InMap own (key_text k ∷ []) [] ∷ fs)

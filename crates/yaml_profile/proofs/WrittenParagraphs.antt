@@ -1,146 +1,205 @@
--- How plain texts of several lines are read.
-use Rattle.std.proofs.Common.{◌≡◌, ℕ, suc, ◌+◌, ◌-◌, ◌<◌, Bool, true, false, List, [], ◌∷◌, ◌++◌, Ok, refl, sym, ap, subst, ◌∙◌, append-nil, append_assoc}
-use Rattle.std.specs.Char.{encode_utf8, len_utf8}
-use Rattle.std.specs.Str.{encode_utf8_all}
-use Rattle.yaml_profile.specs.declared.folding.Seam.TheVariants.{Folds}
+-- How plain texts are read, of one line and of several.
+use Rattle.std.proofs.Common.{◌≡◌, ℕ, zero, suc, ◌+◌, ◌-◌, ◌≤◌, Bool, true, false, not, ◌&&◌, ◌==◌, List, [], ◌∷◌, ◌++◌, Option, Ok, refl, sym, ap, subst, ◌∙◌, append_assoc}
+use Rattle.std.specs.Char.{len_utf8}
+use Rattle.std.proofs.lemmas.Bool.{and_parts}
+use Rattle.yaml_profile.specs.declared.folding.Seam.{Seam}
+use Rattle.yaml_profile.specs.declared.folding.Seam.TheVariants.{Inside, Folds, Joins}
 use Rattle.yaml_profile.specs.declared.front.Role.{Role}
 use Rattle.yaml_profile.specs.declared.front.Role.TheVariants.{Value as ValueOnly}
-use Rattle.yaml_profile.specs.Scalars.{scalar_of}
-use Rattle.yaml_profile.specs.Folding.{Folding, put}
-use Rattle.yaml_profile.specs.Fronts.{Frame, Going, Innermost, AtLine, AtValue, InPlain, Front, front, is_flow, is_deeper}
-use Rattle.yaml_profile.specs.Pieces.{is_key_only}
-use Rattle.yaml_profile.specs.Layout.{block_line, in_line}
-use Rattle.yaml_profile.specs.Reading.{taken, walk}
-use Rattle.yaml_profile.specs.Written.{spaces, Ending, spell_ending, IsEnding, IsApart, Words, spell_words, AreWords, Further, feeds_of, spell_blanks, spell_further, spell_furthers, folded_blanks, further_text, AreFurther}
-use Rattle.yaml_profile.proofs.WrittenTexts.{past, past_append, goes, spaces_line, some_spaces, spaced_by, on_line, spaces_plain, words_go, behind_first, first_of, words_parts, plain_char}
-use Rattle.yaml_profile.proofs.WrittenLines.{Reads, reads_behind, folds, plain_feed, plain_ends, BeginFacts, plain_value, role_of, no_key, first_facts}
-use Rattle.yaml_profile.proofs.WrittenKeys.{begin_content, content_line}
+use Rattle.yaml_profile.specs.Signs.{begins_mark}
+use Rattle.yaml_profile.specs.Folding.{Folding, nothing_yet, after_blank, end_line, after_line}
+use Rattle.yaml_profile.specs.Fronts.{Frame, Going, AtLine, InPlain, Front, front, is_flow, is_deeper}
+use Rattle.yaml_profile.specs.Pieces.{in_plain, is_key_only}
+use Rattle.yaml_profile.specs.Layout.{block_line, flow_line, in_line, line_content}
+use Rattle.yaml_profile.specs.Reading.{taken}
+use Rattle.yaml_profile.specs.Written.{spaces, is_mark, line_ends, IsPlain, with_solid, with_chars, Further, spell_blanks, spell_further, spell_furthers, spell_plain, IsFurther, AreFurther}
+use Rattle.yaml_profile.proofs.WrittenTexts.{lines_walk, past, past_append, goes, spaces_line, not_true, After, PlainFacts, plain_facts, plain_taken, solid_is, chars_go, spaced_after}
+use Rattle.yaml_profile.proofs.WrittenLines.{plain_feed, begin_run, line_goes}
+use Rattle.yaml_profile.proofs.WrittenKeys.{content_line, mark_of}
 use Rattle.yaml_profile.proofs.WrittenBlocks.{column_is}
 
--- a text that waits for a further line, with so many blank lines
-abbrev waits : List ℕ → List ℕ → Folding
-waits x feeds = record { text = x; blanks = []; seam = Folds; feeds = feeds }
+pub chars_append : (xs ys : List ℕ) (t : Folding) → with_chars t (xs ++ ys) ≡ with_chars (with_chars t xs) ys
+chars_append [] ys t = refl
+chars_append (x ∷ xs) ys t = chars_append xs ys (with_chars t (x ∷ []))
 
-blank_feed : (fs : List Frame) (x feeds : List ℕ) (s at : ℕ) (rest : List ℕ) → taken fs (AtLine s (Going (waits x feeds))) at 10 rest ≡ Ok (front fs (AtLine (at + 1) (Going (waits x (feeds ++ 10 ∷ [])))))
+-- ---- a text that waits for a further line
+
+abbrev is_inside : Seam → Bool
+is_inside Inside = true
+is_inside _ = false
+
+blank_waits : (m : Seam) (t : Folding) (c : ℕ) → is_inside m ≡ false → after_blank m t c ≡ t
+blank_waits Inside t c h = cc
+blank_waits Folds t c h = refl
+blank_waits Joins t c h = refl
+
+spaces_wait : (n : ℕ) (t : Folding) → is_inside t.seam ≡ false → with_chars t (spaces n) ≡ t
+spaces_wait zero t h = refl
+spaces_wait (suc n) t h = ap (λ (u : Folding). with_chars u (spaces n)) (blank_waits t.seam t 32 h) ∙ spaces_wait n t h
+
+line_waits : (m : Seam) (t : Folding) → t.seam ≡ m → is_inside (after_line m t).seam ≡ false
+line_waits Inside t e = refl
+line_waits Folds t e = rw e refl
+line_waits Joins t e = rw e refl
+
+end_waits : (t : Folding) → is_inside (end_line t).seam ≡ false
+end_waits t = line_waits t.seam t refl
+
+blank_feed : (fs : List Frame) (t : Folding) (s at : ℕ) (rest : List ℕ) → taken fs (AtLine s (Going t)) at 10 rest ≡ Ok (front fs (AtLine (at + 1) (Going (end_line t))))
 unfolding taken in_line
-blank_feed fs x feeds s at rest = refl
+blank_feed fs t s at rest = refl
 
-blanks_go : (ns : List ℕ) (fs : List Frame) (x feeds : List ℕ) (s : ℕ) (rest : List ℕ)
-    → walk (front fs (AtLine s (Going (waits x feeds)))) s (spell_blanks ns ++ rest) ≡ walk (front fs (AtLine (past s (spell_blanks ns)) (Going (waits x (feeds ++ feeds_of ns))))) (past s (spell_blanks ns)) rest
-blanks_go [] fs x feeds s rest = ap (λ zs. walk (front fs (AtLine s (Going (waits x zs)))) s rest) (sym (append-nil feeds))
-blanks_go (n ∷ ns) fs x feeds s rest =
+line_text : (n : ℕ) (t : Folding) → is_inside t.seam ≡ false → with_chars t (spaces n ++ 10 ∷ []) ≡ end_line t
+line_text n t h = chars_append (spaces n) (10 ∷ []) t ∙ ap (λ (u : Folding). end_line u) (spaces_wait n t h)
+
+blanks_go : (ns : List ℕ) (fs : List Frame) (t : Folding) (s : ℕ) (rest : List ℕ) → is_inside t.seam ≡ false
+    → lines_walk (front fs (AtLine s (Going t))) s (spell_blanks ns ++ rest) ≡ lines_walk (front fs (AtLine (past s (spell_blanks ns)) (Going (with_chars t (spell_blanks ns))))) (past s (spell_blanks ns)) rest
+blanks_go [] fs t s rest h = refl
+blanks_go (n ∷ ns) fs t s rest h =
     let ys : List ℕ = spaces n ++ 10 ∷ [] in
+    let bs : List ℕ = spell_blanks ns in
     let m : ℕ = past s (spaces n) in
-    let i : Innermost = AtLine s (Going (waits x feeds)) in
-    ap (λ zs. walk (front fs i) s zs) (append_assoc ys (spell_blanks ns) rest ∙ append_assoc (spaces n) (10 ∷ []) (spell_blanks ns ++ rest))
-    ∙ (spaces_line n fs s (Going (waits x feeds)) s (10 ∷ (spell_blanks ns ++ rest))
-    ∙ (goes fs i (front fs (AtLine (m + 1) (Going (waits x (feeds ++ 10 ∷ []))))) m 10 (spell_blanks ns ++ rest) refl (blank_feed fs x feeds s m (spell_blanks ns ++ rest))
-    ∙ (ap (λ p. walk (front fs (AtLine p (Going (waits x (feeds ++ 10 ∷ []))))) p (spell_blanks ns ++ rest)) (sym (past_append (spaces n) (10 ∷ []) s))
-    ∙ (blanks_go ns fs x (feeds ++ 10 ∷ []) (past s ys) rest
-    ∙ (ap (λ zs. walk (front fs (AtLine (past (past s ys) (spell_blanks ns)) (Going (waits x zs)))) (past (past s ys) (spell_blanks ns)) rest) (append_assoc feeds (10 ∷ []) (feeds_of ns))
-    ∙ ap (λ p. walk (front fs (AtLine p (Going (waits x (feeds ++ feeds_of (n ∷ ns)))))) p rest) (sym (past_append ys (spell_blanks ns) s)))))))
+    let u : Folding = end_line t in
+    let same : with_chars u bs ≡ with_chars t (ys ++ bs) = sym (chars_append ys bs t ∙ ap (λ (x : Folding). with_chars x bs) (line_text n t h)) in
+    ap (λ zs. lines_walk (front fs (AtLine s (Going t))) s zs) (append_assoc ys bs rest ∙ append_assoc (spaces n) (10 ∷ []) (bs ++ rest))
+    ∙ (spaces_line n fs s (Going t) s (10 ∷ (bs ++ rest))
+    ∙ (goes fs (AtLine s (Going t)) (front fs (AtLine (m + 1) (Going u))) m 10 (bs ++ rest) refl (blank_feed fs t s m (bs ++ rest))
+    ∙ (ap (λ p. lines_walk (front fs (AtLine p (Going u))) p (bs ++ rest)) (sym (past_append (spaces n) (10 ∷ []) s))
+    ∙ (blanks_go ns fs u (past s ys) rest (end_waits t)
+    ∙ (ap (λ (x : Folding). lines_walk (front fs (AtLine (past (past s ys) bs) (Going x))) (past (past s ys) bs) rest) same
+    ∙ ap (λ p. lines_walk (front fs (AtLine p (Going (with_chars t (ys ++ bs))))) p rest) (sym (past_append ys bs s)))))))
 
-put_on : (x : List ℕ) (ns : List ℕ) (c : ℕ) → put (waits x (feeds_of ns)) c ≡ on_line (x ++ (folded_blanks ns ++ encode_utf8 c)) []
-put_on x [] c = ap (λ y. on_line y []) (ap (λ y. y ++ encode_utf8 c) (append-nil (x ++ 32 ∷ [])) ∙ append_assoc x (32 ∷ []) (encode_utf8 c))
-put_on x (n ∷ ns) c = ap (λ y. on_line y []) (ap (λ y. y ++ encode_utf8 c) (append-nil (x ++ feeds_of (n ∷ ns))) ∙ append_assoc x (feeds_of (n ∷ ns)) (encode_utf8 c))
+blanks_wait : (ns : List ℕ) (t : Folding) → is_inside t.seam ≡ false → is_inside (with_chars t (spell_blanks ns)).seam ≡ false
+blanks_wait [] t h = h
+blanks_wait (n ∷ ns) t h =
+    subst (λ (u : Folding). is_inside u.seam ≡ false) (sym (chars_append (spaces n ++ 10 ∷ []) (spell_blanks ns) t ∙ ap (λ (x : Folding). with_chars x (spell_blanks ns)) (line_text n t h)))
+    (blanks_wait ns (end_line t) (end_waits t))
 
-goes_on : (fs : List Frame) (t : Folding) (s at k c : ℕ) (rest : List ℕ) → at - s ≡ k → is_flow fs ≡ false → is_deeper k fs ≡ true → BeginFacts c
-    → taken fs (AtLine s (Going t)) at c rest ≡ Ok (front fs (InPlain (put t c) ValueOnly at false))
-unfolding taken block_line
-goes_on fs t s at k c rest e f d b =
-    content_line fs (Going t) s at c rest f (begin_content c rest b) ∙ rw (e, d) (plain_char fs t ValueOnly at false at c rest b.plain)
+-- ---- a further line
+
+record LineFacts (flow : Bool) (indent c : ℕ) (rest : List ℕ) : Type 0 where
+  space : (c == 32) ≡ false
+  feed : (c == 10) ≡ false
+  tab : (c == 9) ≡ false
+  hash : (c == 35) ≡ false
+  return : (c == 13) ≡ false
+  mark : flow ≡ false → ((indent == 0) && begins_mark c rest) ≡ false
+
+goes_on : (flow : Bool) (fs : List Frame) (t : Folding) (s at k c : ℕ) (rest : List ℕ) → at - s ≡ k → is_flow fs ≡ flow → is_deeper k fs ≡ true → LineFacts flow k c rest
+    → taken fs (AtLine s (Going t)) at c rest ≡ in_plain fs t ValueOnly at false at c rest
+unfolding taken in_line line_content flow_line block_line
+goes_on true fs t s at k c rest e f d h = rw (h.space, h.feed, h.tab, h.hash, f, e, d) refl
+goes_on false fs t s at k c rest e f d h =
+    content_line fs (Going t) s at k c rest e f (record { space = h.space; feed = h.feed; tab = h.tab; hash = h.hash; return = h.return; mark = h.mark refl }) ∙ rw (e, d) refl
+
+line_facts : (flow ended : Bool) (least : ℕ) (l : Further) (rest : List ℕ) → IsFurther flow ended least l → After ended rest → LineFacts flow l.indent l.first (l.text ++ rest)
+line_facts flow ended least l rest h a =
+    let p : (not (l.first == 32) ≡ true) × (not (l.first == 35) ≡ true) = and_parts _ _ h.1 in
+    let f : PlainFacts flow false ended l.first l.text = plain_facts flow false ended l.first l.text h.2 in
+    let m : (not (l.first == 9) ≡ true) × (not (not flow && (l.indent == 0) && is_mark ended l.first l.text) ≡ true) = and_parts _ _ h.3 in
+    record {
+      space = not_true _ p.0;
+      feed = f.feed;
+      tab = not_true _ m.0;
+      hash = not_true _ p.1;
+      return = f.return;
+      mark = λ q. mark_of flow (l.first == 32) ended l.indent l.first l.text rest f.more a m.1 q;
+    }
 
 -- where a plain text stands, with any role but that of a key
-record Stays (fs : List Frame) (at : ℕ) (xs : List ℕ) (f : Front) (y : List ℕ) : Type 0 where
+record Stays (fs : List Frame) (ended : Bool) (at : ℕ) (xs : List ℕ) (f : Front) (t : Folding) : Type 0 where
   role : Role
   begun : ℕ
+  spaced : Bool
   value : is_key_only role ≡ false
-  run : (rest : List ℕ) → walk f at (xs ++ rest) ≡ walk (front fs (InPlain (on_line y []) role begun false)) (past at xs) rest
+  run : (rest : List ℕ) → After ended rest → lines_walk f at (xs ++ rest) ≡ lines_walk (front fs (InPlain t role begun spaced)) (past at xs) rest
 
-stays_behind : (fs : List Frame) (at : ℕ) (xs ys : List ℕ) (f g : Front) (y : List ℕ) → ((rest : List ℕ) → walk f at (xs ++ rest) ≡ walk g (past at xs) rest) → Stays fs (past at xs) ys g y → Stays fs at (xs ++ ys) f y
-stays_behind fs at xs ys f g y step t = record {
-  role = t.role;
-  begun = t.begun;
-  value = t.value;
-  run = λ rest. ap (λ zs. walk f at zs) (append_assoc xs ys rest) ∙ (step (ys ++ rest) ∙ (t.run rest
-      ∙ ap (λ m. walk (front fs (InPlain (on_line y []) t.role t.begun false)) m rest) (sym (past_append xs ys at))));
-}
-
-further_goes : (l : Further) (fs : List Frame) (column : ℕ) (x : List ℕ) (r : Role) (begun at : ℕ) → is_key_only r ≡ false → is_flow fs ≡ false → is_deeper l.indent fs ≡ true → AreWords l.words
-    → Stays fs at (spell_further l) (front fs (InPlain (on_line x []) r begun false)) (x ++ (folded_blanks l.blanks ++ encode_utf8_all (spell_words l.words)))
-further_goes l fs column x r begun at k f d a =
-    let n : ℕ = l.before in
-    let ys : List ℕ = spaces n ++ 10 ∷ [] in
-    let s : ℕ = past at ys in
+further_goes : (l : Further) (fs : List Frame) (flow ended : Bool) (least : ℕ) (t : Folding) (r : Role) (begun : ℕ) (sp : Bool) (at : ℕ) → is_key_only r ≡ false → is_flow fs ≡ flow → is_deeper l.indent fs ≡ true → IsFurther flow ended least l
+    → Stays fs ended at (spell_further l) (front fs (InPlain t r begun sp)) (with_chars t (spell_further l))
+further_goes l fs flow ended least t r begun sp at k f d h =
+    let s : ℕ = at + 1 in
     let bs : List ℕ = spell_blanks l.blanks in
-    let p : ℕ = past s bs in
     let is : List ℕ = spaces l.indent in
+    let c : ℕ = l.first in
+    let cs : List ℕ = l.text in
+    let p : ℕ = past s bs in
     let m : ℕ = past p is in
-    let c : ℕ = first_of l.words in
-    let cs : List ℕ = behind_first l.words in
-    let t : Folding = waits x (feeds_of l.blanks) in
-    let y : List ℕ = x ++ (folded_blanks l.blanks ++ encode_utf8 c) in
-    let b : BeginFacts c = first_facts l.words a in
-    let feed : (rest : List ℕ) → walk (front fs (InPlain (on_line x []) r begun false)) at (ys ++ rest) ≡ walk (front fs (AtLine s (Going (waits x [])))) s rest
-    = λ rest. ap (λ zs. walk (front fs (InPlain (on_line x []) r begun false)) at zs) (append_assoc (spaces n) (10 ∷ []) rest)
-    ∙ (spaces_plain n fs x [] r begun false at (10 ∷ rest)
-    ∙ (goes fs (InPlain (on_line x (spaces n)) r begun (spaced_by false n)) (front fs (AtLine (past at (spaces n) + 1) (Going (folds x)))) (past at (spaces n)) 10 rest refl
-    (plain_feed fs x (spaces n) r begun (spaced_by false n) (past at (spaces n)) rest k)
-    ∙ ap (λ q. walk (front fs (AtLine q (Going (folds x)))) q rest) (sym (past_append (spaces n) (10 ∷ []) at)))) in
-    let word : Stays fs m (c ∷ cs) (front fs (AtLine p (Going t))) (y ++ encode_utf8_all cs)
-    = record {
+    let u : Folding = end_line t in
+    let v : Folding = with_chars u bs in
+    let waits : is_inside v.seam ≡ false = blanks_wait l.blanks u (end_waits t) in
+    let g : PlainFacts flow false ended c cs = plain_facts flow false ended c cs h.2 in
+    let w : Folding = with_chars v (c ∷ cs) in
+    let q : Bool = spaced_after (c == 32) cs in
+    let same : w ≡ with_chars t (spell_further l)
+    = sym (chars_append bs (is ++ c ∷ cs) u ∙ (chars_append is (c ∷ cs) v ∙ ap (λ (x : Folding). with_chars x (c ∷ cs)) (spaces_wait l.indent v waits))) in
+    record {
       role = ValueOnly;
       begun = m;
+      spaced = q;
       value = refl;
-      run = λ rest.
-          goes fs (AtLine p (Going t)) (front fs (InPlain (put t c) ValueOnly m false)) m c (cs ++ rest) b.plain.return (goes_on fs t p m l.indent c (cs ++ rest) (column_is l.indent p) f d b)
-          ∙ (ap (λ (q : Folding). walk (front fs (InPlain q ValueOnly m false)) (m + len_utf8 c) (cs ++ rest)) (put_on x l.blanks c)
-          ∙ words_go l.words fs y ValueOnly m (m + len_utf8 c) rest a);
-    } in
-    let text : y ++ encode_utf8_all cs ≡ x ++ (folded_blanks l.blanks ++ encode_utf8_all (c ∷ cs))
-    = append_assoc x (folded_blanks l.blanks ++ encode_utf8 c) (encode_utf8_all cs) ∙ ap (λ zs. x ++ zs) (append_assoc (folded_blanks l.blanks) (encode_utf8 c) (encode_utf8_all cs)) in
-    let whole : Stays fs at (ys ++ (bs ++ (is ++ (c ∷ cs)))) (front fs (InPlain (on_line x []) r begun false)) (y ++ encode_utf8_all cs)
-    = stays_behind fs at ys (bs ++ (is ++ (c ∷ cs))) (front fs (InPlain (on_line x []) r begun false)) (front fs (AtLine s (Going (waits x [])))) (y ++ encode_utf8_all cs) feed
-    (stays_behind fs s bs (is ++ (c ∷ cs)) (front fs (AtLine s (Going (waits x [])))) (front fs (AtLine p (Going t))) (y ++ encode_utf8_all cs) (λ rest. blanks_go l.blanks fs x [] s rest)
-    (stays_behind fs p is (c ∷ cs) (front fs (AtLine p (Going t))) (front fs (AtLine p (Going t))) (y ++ encode_utf8_all cs) (λ rest. spaces_line l.indent fs p (Going t) p rest) word)) in
-    let P : List ℕ → Type 0 = λ zs. Stays fs at (ys ++ (bs ++ (is ++ zs))) (front fs (InPlain (on_line x []) r begun false)) (x ++ (folded_blanks l.blanks ++ encode_utf8_all zs)) in
-    let Q : List ℕ → Type 0 = λ zs. Stays fs at (ys ++ (bs ++ (is ++ (c ∷ cs)))) (front fs (InPlain (on_line x []) r begun false)) zs in
-    subst P (sym (words_parts l.words)) (subst Q text whole)
+      run = λ rest a.
+          goes fs (InPlain t r begun sp) (front fs (AtLine s (Going u))) at 10 ((bs ++ (is ++ c ∷ cs)) ++ rest) refl (plain_feed fs t r begun sp at ((bs ++ (is ++ c ∷ cs)) ++ rest) k)
+          ∙ (ap (λ zs. lines_walk (front fs (AtLine s (Going u))) s zs) (append_assoc bs (is ++ c ∷ cs) rest ∙ ap (λ zs. bs ++ zs) (append_assoc is (c ∷ cs) rest))
+          ∙ (blanks_go l.blanks fs u s (is ++ ((c ∷ cs) ++ rest)) (end_waits t)
+          ∙ (spaces_line l.indent fs p (Going v) p ((c ∷ cs) ++ rest)
+          ∙ (goes fs (AtLine p (Going v)) (front fs (InPlain (with_solid v c) ValueOnly m (c == 32))) m c (cs ++ rest) g.return
+          (goes_on flow fs v p m l.indent c (cs ++ rest) (column_is l.indent p) f d (line_facts flow ended least l rest h a) ∙ plain_taken fs v ValueOnly m flow false ended m c cs rest g f a.word)
+          ∙ (ap (λ (x : Folding). lines_walk (front fs (InPlain x ValueOnly m (c == 32))) (m + len_utf8 c) (cs ++ rest)) (sym (solid_is v c g.feed))
+          ∙ (chars_go cs fs (with_chars v (c ∷ [])) ValueOnly m flow (c == 32) ended (m + len_utf8 c) rest g.more f a.word
+          ∙ (ap (λ (x : Folding). lines_walk (front fs (InPlain x ValueOnly m q)) (past m (c ∷ cs)) rest) same
+          ∙ ap (λ n. lines_walk (front fs (InPlain (with_chars t (spell_further l)) ValueOnly m q)) n rest) (sym (past_append bs (is ++ c ∷ cs) s ∙ past_append is (c ∷ cs) p)))))))));
+    }
 
-furthers_go : (ls : List Further) (fs : List Frame) (column : ℕ) (x : List ℕ) (r : Role) (begun at : ℕ) → is_key_only r ≡ false → is_flow fs ≡ false → ((n : ℕ) → column < n → is_deeper n fs ≡ true) → AreFurther column ls
-    → Stays fs at (spell_furthers ls) (front fs (InPlain (on_line x []) r begun false)) (x ++ further_text ls)
-furthers_go [] fs column x r begun at k f d a =
-    record { role = r; begun = begun; value = k; run = λ rest. ap (λ zs. walk (front fs (InPlain (on_line zs []) r begun false)) at rest) (sym (append-nil x)) }
-furthers_go (l ∷ ls) fs column x r begun at k f d a =
-    let y : List ℕ = x ++ (folded_blanks l.blanks ++ encode_utf8_all (spell_words l.words)) in
-    let t : Stays fs at (spell_further l) (front fs (InPlain (on_line x []) r begun false)) y = further_goes l fs column x r begun at k f (d l.indent a.0) a.1 in
-    let q : Stays fs (past at (spell_further l)) (spell_furthers ls) (front fs (InPlain (on_line y []) t.role t.begun false)) (y ++ further_text ls)
-    = furthers_go ls fs column y t.role t.begun (past at (spell_further l)) t.value f d a.2 in
-    let P : List ℕ → Type 0 = λ zs. Stays fs at (spell_further l ++ spell_furthers ls) (front fs (InPlain (on_line x []) r begun false)) zs in
-    subst P (append_assoc x (folded_blanks l.blanks ++ encode_utf8_all (spell_words l.words)) (further_text ls))
-    (stays_behind fs at (spell_further l) (spell_furthers ls) (front fs (InPlain (on_line x []) r begun false)) (front fs (InPlain (on_line y []) t.role t.begun false)) (y ++ further_text ls) t.run q)
+pub lines_after : (ended : Bool) (ls : List Further) (rest : List ℕ) → After ended rest → After (line_ends ended ls) (spell_furthers ls ++ rest)
+lines_after ended [] rest a = a
+lines_after ended (l ∷ ls) rest a = record { word = refl; quote = refl; dash = refl; dot = refl }
 
-pub paragraph_reads : (n : ℕ) (ws : Words) (ls : List Further) (e : Ending) (fs : List Frame) (column s : ℕ) (m sp : Bool) (at : ℕ) → AreWords ws → AreFurther column ls → IsEnding e → IsApart e → is_flow fs ≡ false
-    → ((k : ℕ) → column < k → is_deeper k fs ≡ true)
-    → Reads (front fs (AtValue s m sp)) at (spaces (suc n) ++ (spell_words ws ++ (spell_furthers ls ++ spell_ending e))) fs (scalar_of (encode_utf8_all (spell_words ws) ++ further_text ls))
-paragraph_reads n ws ls e fs column s m sp at a b h g f d =
-    let p : ℕ = past at (spaces (suc n)) in
-    let c : ℕ = first_of ws in
-    let cs : List ℕ = behind_first ws in
-    let r : Role = role_of m (p - s) in
-    let x : List ℕ = encode_utf8 c ++ encode_utf8_all cs in
-    let z : BeginFacts c = first_facts ws a in
-    let q : ℕ = past p (c ∷ cs) in
-    let t : Stays fs q (spell_furthers ls) (front fs (InPlain (on_line x []) r p false)) (x ++ further_text ls) = furthers_go ls fs column x r p q (no_key m (p - s)) f d b in
-    let ends : Reads (front fs (InPlain (on_line (x ++ further_text ls) []) t.role t.begun false)) (past q (spell_furthers ls)) (spell_ending e) fs (scalar_of (x ++ further_text ls))
-    = plain_ends e fs (x ++ further_text ls) t.role t.begun (past q (spell_furthers ls)) t.value h g in
-    let more : Reads (front fs (InPlain (on_line x []) r p false)) q (spell_furthers ls ++ spell_ending e) fs (scalar_of (x ++ further_text ls))
-    = reads_behind (front fs (InPlain (on_line x []) r p false)) (front fs (InPlain (on_line (x ++ further_text ls) []) t.role t.begun false)) q (spell_furthers ls) (spell_ending e) fs (scalar_of (x ++ further_text ls)) t.run ends in
-    let whole : Reads (front fs (AtValue s m true)) p ((c ∷ cs) ++ (spell_furthers ls ++ spell_ending e)) fs (scalar_of (x ++ further_text ls))
-    = reads_behind (front fs (AtValue s m true)) (front fs (InPlain (on_line x []) r p false)) p (c ∷ cs) (spell_furthers ls ++ spell_ending e) fs (scalar_of (x ++ further_text ls))
-    (λ rest. goes fs (AtValue s m true) (front fs (InPlain (on_line (encode_utf8 c) []) r p false)) p c (cs ++ rest) z.plain.return (plain_value fs s m true p c (cs ++ rest) z)
-    ∙ words_go ws fs (encode_utf8 c) r p (p + len_utf8 c) rest a)
-    more in
-    let P : List ℕ → Type 0 = λ zs. Reads (front fs (AtValue s m true)) p (zs ++ (spell_furthers ls ++ spell_ending e)) fs (scalar_of (encode_utf8_all zs ++ further_text ls)) in
-    reads_behind (front fs (AtValue s m sp)) (front fs (AtValue s m true)) at (spaces (suc n)) (spell_words ws ++ (spell_furthers ls ++ spell_ending e)) fs (scalar_of (encode_utf8_all (spell_words ws) ++ further_text ls))
-    (λ rest. some_spaces n fs s m sp at rest) (subst P (sym (words_parts ws)) whole)
+furthers_go : (ls : List Further) (fs : List Frame) (flow ended : Bool) (least : ℕ) (t : Folding) (r : Role) (begun : ℕ) (sp : Bool) (at : ℕ) → is_key_only r ≡ false → is_flow fs ≡ flow → ((n : ℕ) → least ≤ n → is_deeper n fs ≡ true) → AreFurther flow ended least ls
+    → Stays fs ended at (spell_furthers ls) (front fs (InPlain t r begun sp)) (with_chars t (spell_furthers ls))
+furthers_go [] fs flow ended least t r begun sp at k f d h = record { role = r; begun = begun; spaced = sp; value = k; run = λ rest a. refl }
+furthers_go (l ∷ ls) fs flow ended least t r begun sp at k f d h =
+    let xs : List ℕ = spell_further l in
+    let ys : List ℕ = spell_furthers ls in
+    let u : Folding = with_chars t xs in
+    let one : Stays fs (line_ends ended ls) at xs (front fs (InPlain t r begun sp)) u = further_goes l fs flow (line_ends ended ls) least t r begun sp at k f (d l.indent h.0.0) h.0 in
+    let more : Stays fs ended (past at xs) ys (front fs (InPlain u one.role one.begun one.spaced)) (with_chars u ys)
+    = furthers_go ls fs flow ended least u one.role one.begun one.spaced (past at xs) one.value f d h.1 in
+    record {
+      role = more.role;
+      begun = more.begun;
+      spaced = more.spaced;
+      value = more.value;
+      run = λ rest a. ap (λ zs. lines_walk (front fs (InPlain t r begun sp)) at zs) (append_assoc xs ys rest)
+          ∙ (one.run (ys ++ rest) (lines_after ended ls rest a)
+          ∙ (more.run rest a
+          ∙ (ap (λ (x : Folding). lines_walk (front fs (InPlain x more.role more.begun more.spaced)) (past (past at xs) ys) rest) (sym (chars_append xs ys t))
+          ∙ ap (λ n. lines_walk (front fs (InPlain (with_chars t (xs ++ ys)) more.role more.begun more.spaced)) n rest) (sym (past_append xs ys at)))));
+    }
+
+-- the whole text, where it begins
+pub record Plained (fs : List Frame) (ended : Bool) (role : Role) (at : ℕ) (xs : List ℕ) : Type 0 where
+  pub role_then : Role
+  pub begun : ℕ
+  pub spaced : Bool
+  pub value : is_key_only role_then ≡ false
+  pub run : (rest : List ℕ) → After ended rest → begin_run fs role at (xs ++ rest) ≡ lines_walk (front fs (InPlain (with_chars nothing_yet xs) role_then begun spaced)) (past at xs) rest
+
+pub plain_goes : (c : ℕ) (cs : List ℕ) (ls : List Further) (place : Option ℕ) (fs : List Frame) (flow ended : Bool) (least : ℕ) (role : Role) (at : ℕ) → is_key_only role ≡ false → is_flow fs ≡ flow → ((n : ℕ) → least ≤ n → is_deeper n fs ≡ true)
+    → IsPlain place flow (line_ends ended ls) c cs → AreFurther flow ended least ls → Plained fs ended role at (spell_plain c cs ls)
+plain_goes c cs ls place fs flow ended least role at k f d h g =
+    let xs : List ℕ = c ∷ cs in
+    let ys : List ℕ = spell_furthers ls in
+    let t : Folding = with_chars nothing_yet xs in
+    let sp : Bool = spaced_after false cs in
+    let more : Stays fs ended (past at xs) ys (front fs (InPlain t role at sp)) (with_chars t ys) = furthers_go ls fs flow ended least t role at sp (past at xs) k f d g in
+    record {
+      role_then = more.role;
+      begun = more.begun;
+      spaced = more.spaced;
+      value = more.value;
+      run = λ rest a. ap (λ zs. begin_run fs role at zs) (append_assoc xs ys rest)
+          ∙ (line_goes c cs fs role flow (line_ends ended ls) at (ys ++ rest) h.0 h.1 f (lines_after ended ls rest a).word
+          ∙ (more.run rest a
+          ∙ (ap (λ (x : Folding). lines_walk (front fs (InPlain x more.role more.begun more.spaced)) (past (past at xs) ys) rest) (sym (chars_append xs ys nothing_yet))
+          ∙ ap (λ n. lines_walk (front fs (InPlain (with_chars nothing_yet (xs ++ ys)) more.role more.begun more.spaced)) n rest) (sym (past_append xs ys at)))));
+    }

@@ -1,21 +1,21 @@
 -- How the texts of written files are read, a character at a time.
-use Rattle.std.proofs.Common.{◌≡◌, ℕ, zero, suc, ◌+◌, Bool, true, false, ◌==◌, List, [], ◌∷◌, ◌++◌, Result, Ok, refl, sym, ap, ◌∙◌, arith, append-nil, append_assoc, lit<}
-use Rattle.std.proofs.lemmas.Str.{encode_ascii, encodes-append}
+use Rattle.std.proofs.Common.{◌≡◌, ℕ, zero, suc, ◌+◌, Bool, true, false, not, ◌&&◌, ◌==◌, List, [], ◌∷◌, ◌++◌, Result, Ok, refl, sym, ap, subst, ◌∙◌, arith, inl, inr}
 use Rattle.std.specs.List.{list_all}
-use Rattle.std.specs.Char.{encode_utf8, len_utf8}
-use Rattle.std.specs.Str.{encode_utf8_all}
-use Rattle.std.proofs.lemmas.Bool.{and_parts}
+use Rattle.std.specs.Char.{len_utf8}
+use Rattle.std.proofs.lemmas.Bool.{and_parts, cases_Bool}
 use Rattle.std.proofs.lemmas.Bool.Decides.{nat_tests}
 use Rattle.yaml_profile.specs.declared.stop.Broken.{Broken}
 use Rattle.yaml_profile.specs.declared.front.Role.{Role}
-use Rattle.yaml_profile.specs.declared.folding.Seam.TheVariants.{Inside}
+use Rattle.yaml_profile.specs.declared.folding.Seam.{Seam}
+use Rattle.yaml_profile.specs.declared.folding.Seam.TheVariants.{Inside, Folds, Joins}
 use Rattle.yaml_profile.specs.Answers.{◌>>=◌}
-use Rattle.yaml_profile.specs.Folding.{Folding, put}
-use Rattle.yaml_profile.specs.Fronts.{Frame, Waiting, Innermost, AtLine, AtValue, InPlain, AfterQuoted, InComment, Front, front}
+use Rattle.yaml_profile.specs.Signs.{is_blank, begins_with, ends_word, is_flow_sign}
+use Rattle.yaml_profile.specs.Folding.{Folding, put_blank, after_blank}
+use Rattle.yaml_profile.specs.Fronts.{Frame, Waiting, Innermost, AtLine, AtValue, InPlain, AfterQuoted, InComment, Front, front, is_flow}
 use Rattle.yaml_profile.specs.Pieces.{in_at_value, in_plain, in_after_quoted}
 use Rattle.yaml_profile.specs.Layout.{in_line, in_comment}
-use Rattle.yaml_profile.specs.Reading.{taken, step, walk}
-use Rattle.yaml_profile.specs.Written.{spaces, is_inner, is_plain, Words, Word, Then, spell_words, AreWords}
+use Rattle.yaml_profile.specs.Reading.{taken}
+use Rattle.yaml_profile.specs.Written.{spaces, Ending, Bare, Noted, spell_ending, IsApart, is_inner, word_ends, stays_plain, with_solid, with_char, with_chars}
 
 -- the place behind these characters
 abbrev pub past : ℕ → List ℕ → ℕ
@@ -26,17 +26,22 @@ pub past_append : (xs ys : List ℕ) (at : ℕ) → past at (xs ++ ys) ≡ past 
 past_append [] ys at = refl
 past_append (x ∷ xs) ys at = past_append xs ys (at + len_utf8 x)
 
--- one character that is no carriage return
+-- reading where line feeds alone end lines, and a carriage return is a character
+unfoldable pub lines_walk : Front → ℕ → List ℕ → Result Front Broken
+lines_walk f at [] = Ok f
+lines_walk f at (c ∷ cs) = taken f.frames f.inner at c cs >>= λ g. lines_walk g (at + len_utf8 c) cs
+
+-- one character
 pub goes : (fs : List Frame) (i : Innermost) (g : Front) (at c : ℕ) (rest : List ℕ) → (c == 13) ≡ false → taken fs i at c rest ≡ Ok g
-    → walk (front fs i) at (c ∷ rest) ≡ walk g (at + len_utf8 c) rest
-unfolding walk step
-goes fs i g at c rest n e = rw (n, e) refl
+    → lines_walk (front fs i) at (c ∷ rest) ≡ lines_walk g (at + len_utf8 c) rest
+unfolding lines_walk
+goes fs i g at c rest n e = rw e refl
 
 -- the same where another definition says what is taken
 pub goes_by : (fs : List Frame) (i : Innermost) (r : Result Front Broken) (at c : ℕ) (rest : List ℕ) → (c == 13) ≡ false → taken fs i at c rest ≡ r
-    → walk (front fs i) at (c ∷ rest) ≡ (r >>= λ g. walk g (at + len_utf8 c) rest)
-unfolding walk step
-goes_by fs i r at c rest n e = rw (n, e) refl
+    → lines_walk (front fs i) at (c ∷ rest) ≡ (r >>= λ g. lines_walk g (at + len_utf8 c) rest)
+unfolding lines_walk
+goes_by fs i r at c rest n e = rw e refl
 
 -- ---- spaces
 
@@ -45,7 +50,7 @@ unfolding taken in_line
 space_line fs s w at rest = refl
 
 pub spaces_line : (n : ℕ) (fs : List Frame) (s : ℕ) (w : Waiting) (at : ℕ) (rest : List ℕ)
-    → walk (front fs (AtLine s w)) at (spaces n ++ rest) ≡ walk (front fs (AtLine s w)) (past at (spaces n)) rest
+    → lines_walk (front fs (AtLine s w)) at (spaces n ++ rest) ≡ lines_walk (front fs (AtLine s w)) (past at (spaces n)) rest
 spaces_line zero fs s w at rest = refl
 spaces_line (suc n) fs s w at rest = goes fs (AtLine s w) (front fs (AtLine s w)) at 32 (spaces n ++ rest) refl (space_line fs s w at (spaces n ++ rest)) ∙ spaces_line n fs s w (at + 1) rest
 
@@ -55,14 +60,14 @@ space_value fs s m sp at rest = refl
 
 -- behind at least one space
 pub spaces_value : (n : ℕ) (fs : List Frame) (s : ℕ) (m : Bool) (at : ℕ) (rest : List ℕ)
-    → walk (front fs (AtValue s m true)) at (spaces n ++ rest) ≡ walk (front fs (AtValue s m true)) (past at (spaces n)) rest
+    → lines_walk (front fs (AtValue s m true)) at (spaces n ++ rest) ≡ lines_walk (front fs (AtValue s m true)) (past at (spaces n)) rest
 spaces_value zero fs s m at rest = refl
 spaces_value (suc n) fs s m at rest =
     goes fs (AtValue s m true) (front fs (AtValue s m true)) at 32 (spaces n ++ rest) refl (space_value fs s m true at (spaces n ++ rest)) ∙ spaces_value n fs s m (at + 1) rest
 
 -- from the colon or dash on
 pub some_spaces : (n : ℕ) (fs : List Frame) (s : ℕ) (m sp : Bool) (at : ℕ) (rest : List ℕ)
-    → walk (front fs (AtValue s m sp)) at (spaces (suc n) ++ rest) ≡ walk (front fs (AtValue s m true)) (past at (spaces (suc n))) rest
+    → lines_walk (front fs (AtValue s m sp)) at (spaces (suc n) ++ rest) ≡ lines_walk (front fs (AtValue s m true)) (past at (spaces (suc n))) rest
 some_spaces n fs s m sp at rest =
     goes fs (AtValue s m sp) (front fs (AtValue s m true)) at 32 (spaces n ++ rest) refl (space_value fs s m sp at (spaces n ++ rest)) ∙ spaces_value n fs s m (at + 1) rest
 
@@ -80,11 +85,11 @@ still zero = refl
 still (suc n) = refl
 
 pub spaces_quoted : (n : ℕ) (fs : List Frame) (x : List ℕ) (r : Role) (b : ℕ) (sp : Bool) (at : ℕ) (rest : List ℕ)
-    → walk (front fs (AfterQuoted x r b sp)) at (spaces n ++ rest) ≡ walk (front fs (AfterQuoted x r b (spaced_by sp n))) (past at (spaces n)) rest
+    → lines_walk (front fs (AfterQuoted x r b sp)) at (spaces n ++ rest) ≡ lines_walk (front fs (AfterQuoted x r b (spaced_by sp n))) (past at (spaces n)) rest
 spaces_quoted zero fs x r b sp at rest = refl
 spaces_quoted (suc n) fs x r b sp at rest =
     goes fs (AfterQuoted x r b sp) (front fs (AfterQuoted x r b true)) at 32 (spaces n ++ rest) refl (space_quoted fs x r b sp at (spaces n ++ rest))
-    ∙ (spaces_quoted n fs x r b true (at + 1) rest ∙ ap (λ (v : Bool). walk (front fs (AfterQuoted x r b v)) (past (at + 1) (spaces n)) rest) (still n))
+    ∙ (spaces_quoted n fs x r b true (at + 1) rest ∙ ap (λ (v : Bool). lines_walk (front fs (AfterQuoted x r b v)) (past (at + 1) (spaces n)) rest) (still n))
 
 -- ---- comments
 
@@ -104,7 +109,7 @@ unfolding taken in_comment
 comment_end fs w at rest = refl
 
 pub comment_goes : (cs : List ℕ) (fs : List Frame) (w : Waiting) (at : ℕ) (rest : List ℕ) → list_all is_inner cs ≡ true
-    → walk (front fs (InComment w)) at ((cs ++ 10 ∷ []) ++ rest) ≡ walk (front fs (AtLine (past at (cs ++ 10 ∷ [])) w)) (past at (cs ++ 10 ∷ [])) rest
+    → lines_walk (front fs (InComment w)) at ((cs ++ 10 ∷ []) ++ rest) ≡ lines_walk (front fs (AtLine (past at (cs ++ 10 ∷ [])) w)) (past at (cs ++ 10 ∷ [])) rest
 comment_goes [] fs w at rest a = goes fs (InComment w) (front fs (AtLine (at + 1) w)) at 10 rest refl (comment_end fs w at rest)
 comment_goes (c ∷ cs) fs w at rest a =
     let h : (is_inner c ≡ true) × (list_all is_inner cs ≡ true) = and_parts _ _ a in
@@ -112,120 +117,120 @@ comment_goes (c ∷ cs) fs w at rest a =
     goes fs (InComment w) (front fs (InComment w)) at c ((cs ++ 10 ∷ []) ++ rest) f.return (comment_char fs w at c ((cs ++ 10 ∷ []) ++ rest) f.feed)
     ∙ comment_goes cs fs w (at + len_utf8 c) rest h.1
 
+-- ---- tests
+
+pub not_true : (b : Bool) → not b ≡ true → b ≡ false
+not_true true e = cc
+not_true false e = refl
+
+pub is_that : (c d : ℕ) → (c == d) ≡ true → d ≡ c
+is_that c d h = grind (arith, nat_tests)
+
+-- a character that a test refuses isn't one that it takes
+pub never : (test : ℕ → Bool) (c d : ℕ) → test c ≡ false → test d ≡ true → (c == d) ≡ false
+never test c d h g = elim (cases_Bool (c == d)) [
+  | inl e ↦ let q : test d ≡ false = subst (λ (x : ℕ). test x ≡ false) (sym (is_that c d e)) h in absurd (let r : true ≡ false = sym g ∙ q in cc)
+  | inr e ↦ e
+]
+
+-- ---- what stands behind a text
+
+pub record After (ended : Bool) (rest : List ℕ) : Type 0 where
+  pub word : ends_word rest ≡ ended
+  pub quote : begins_with 39 rest ≡ false
+  pub dash : begins_with 45 rest ≡ false
+  pub dot : begins_with 46 rest ≡ false
+
+pub after_char : (d : ℕ) (rest : List ℕ) (ended : Bool) → ends_word (d ∷ rest) ≡ ended → (d == 39) ≡ false → (d == 45) ≡ false → (d == 46) ≡ false → After ended (d ∷ rest)
+after_char d rest ended w a b c = record { word = w; quote = a; dash = b; dot = c }
+
+pub after_spaces : (n : ℕ) (rest : List ℕ) → After true (spaces (suc n) ++ rest)
+after_spaces n rest = after_char 32 (spaces n ++ rest) true refl refl refl refl
+
+pub after_ending : (e : Ending) (rest : List ℕ) → IsApart e → After true (spell_ending e ++ rest)
+after_ending (Bare zero) rest a = after_char 10 rest true refl refl refl refl
+after_ending (Bare (suc n)) rest a = after_char 32 ((spaces n ++ 10 ∷ []) ++ rest) true refl refl refl refl
+after_ending (Noted zero text) rest a = absurd (omega arith)
+after_ending (Noted (suc n) text) rest a = after_char 32 ((spaces n ++ 35 ∷ (text ++ 10 ∷ [])) ++ rest) true refl refl refl refl
+
 -- ---- plain texts
 
-pub record PlainFacts (c : ℕ) : Type 0 where
+pub record PlainFacts (flow spaced ended : Bool) (c : ℕ) (cs : List ℕ) : Type 0 where
   pub feed : (c == 10) ≡ false
   pub return : (c == 13) ≡ false
-  pub space : (c == 32) ≡ false
-  pub tab : (c == 9) ≡ false
-  pub colon : (c == 58) ≡ false
-  pub hash : (c == 35) ≡ false
-  pub comma : (c == 44) ≡ false
-  pub left : (c == 91) ≡ false
-  pub right : (c == 93) ≡ false
-  pub left_brace : (c == 123) ≡ false
-  pub right_brace : (c == 125) ≡ false
+  pub colon : ((c == 58) && word_ends ended cs) ≡ false
+  pub hash : ((c == 35) && spaced) ≡ false
+  pub sign : (flow && is_flow_sign c) ≡ false
+  pub more : stays_plain flow (c == 32) ended cs ≡ true
 
-pub plain_facts : (c : ℕ) → is_plain c ≡ true → PlainFacts c
-plain_facts c h = record {
-  feed = grind (arith, nat_tests);
-  return = grind (arith, nat_tests);
-  space = grind (arith, nat_tests);
-  tab = grind (arith, nat_tests);
-  colon = grind (arith, nat_tests);
-  hash = grind (arith, nat_tests);
-  comma = grind (arith, nat_tests);
-  left = grind (arith, nat_tests);
-  right = grind (arith, nat_tests);
-  left_brace = grind (arith, nat_tests);
-  right_brace = grind (arith, nat_tests);
-}
+pub plain_facts : (flow spaced ended : Bool) (c : ℕ) (cs : List ℕ) → stays_plain flow spaced ended (c ∷ cs) ≡ true → PlainFacts flow spaced ended c cs
+plain_facts flow spaced ended c cs h =
+    let a = and_parts _ _ h in
+    let b = and_parts _ _ a.0 in
+    let d = and_parts _ _ b.0 in
+    let e = and_parts _ _ d.0 in
+    let f = and_parts _ _ e.0 in
+    record { feed = not_true _ f.0; return = not_true _ f.1; colon = not_true _ e.1; hash = not_true _ d.1; sign = not_true _ b.1; more = a.1 }
 
--- a text on its first line, with so many spaces behind it
-abbrev pub on_line : List ℕ → List ℕ → Folding
-on_line x blanks = record { text = x; blanks = blanks; seam = Inside; feeds = [] }
+pub next_word : (cs rest : List ℕ) (flow spaced ended : Bool) → stays_plain flow spaced ended cs ≡ true → ends_word rest ≡ ended → ends_word (cs ++ rest) ≡ word_ends ended cs
+next_word [] rest flow spaced ended h w = w
+next_word (d ∷ ds) rest flow spaced ended h w =
+    let f : PlainFacts flow spaced ended d ds = plain_facts flow spaced ended d ds h in
+    rw f.return (elim (cases_Bool (d == 10)) [ inl e ↦ rw e refl | inr e ↦ rw e refl ])
 
-pub put_char : (x b : List ℕ) (c : ℕ) → put (on_line x b) c ≡ on_line (x ++ (b ++ encode_utf8 c)) []
-put_char x b c = ap (λ y. on_line y []) (ap (λ y. (y ++ b) ++ encode_utf8 c) (append-nil x) ∙ append_assoc x b (encode_utf8 c))
+swapped : (a b : Bool) → (a && b) ≡ false → (b && a) ≡ false
+swapped true true h = cc
+swapped true false h = refl
+swapped false true h = refl
+swapped false false h = refl
 
-pub plain_char : (fs : List Frame) (t : Folding) (r : Role) (b : ℕ) (sp : Bool) (at c : ℕ) (rest : List ℕ) → PlainFacts c
-    → taken fs (InPlain t r b sp) at c rest ≡ Ok (front fs (InPlain (put t c) r b false))
+pub plain_taken : (fs : List Frame) (t : Folding) (r : Role) (b : ℕ) (flow sp ended : Bool) (at c : ℕ) (cs rest : List ℕ) → PlainFacts flow sp ended c cs → is_flow fs ≡ flow → ends_word rest ≡ ended
+    → in_plain fs t r b sp at c (cs ++ rest) ≡ Ok (front fs (InPlain (with_solid t c) r b (c == 32)))
+unfolding in_plain
+plain_taken fs t r b flow sp ended at c cs rest f l w =
+    let e : ends_word (cs ++ rest) ≡ word_ends ended cs = next_word cs rest flow (c == 32) ended f.more w in
+    rw (e, f.colon, f.hash, f.feed, l, swapped flow (is_flow_sign c) f.sign) (elim (cases_Bool (is_blank c)) [ inl h ↦ rw h refl | inr h ↦ rw h refl ])
+
+plain_char : (fs : List Frame) (t : Folding) (r : Role) (b : ℕ) (flow sp ended : Bool) (at c : ℕ) (cs rest : List ℕ) → PlainFacts flow sp ended c cs → is_flow fs ≡ flow → ends_word rest ≡ ended
+    → taken fs (InPlain t r b sp) at c (cs ++ rest) ≡ Ok (front fs (InPlain (with_solid t c) r b (c == 32)))
+unfolding taken
+plain_char fs t r b flow sp ended at c cs rest f l w = plain_taken fs t r b flow sp ended at c cs rest f l w
+
+pub solid_is : (t : Folding) (c : ℕ) → (c == 10) ≡ false → with_char t c ≡ with_solid t c
+solid_is t c h = rw h refl
+
+-- whether a space stands before what follows these characters
+abbrev pub spaced_after : Bool → List ℕ → Bool
+spaced_after sp [] = sp
+spaced_after sp (c ∷ cs) = spaced_after (c == 32) cs
+
+pub chars_go : (cs : List ℕ) (fs : List Frame) (t : Folding) (r : Role) (b : ℕ) (flow sp ended : Bool) (at : ℕ) (rest : List ℕ) → stays_plain flow sp ended cs ≡ true → is_flow fs ≡ flow → ends_word rest ≡ ended
+    → lines_walk (front fs (InPlain t r b sp)) at (cs ++ rest) ≡ lines_walk (front fs (InPlain (with_chars t cs) r b (spaced_after sp cs))) (past at cs) rest
+chars_go [] fs t r b flow sp ended at rest h l w = refl
+chars_go (c ∷ cs) fs t r b flow sp ended at rest h l w =
+    let f : PlainFacts flow sp ended c cs = plain_facts flow sp ended c cs h in
+    goes fs (InPlain t r b sp) (front fs (InPlain (with_solid t c) r b (c == 32))) at c (cs ++ rest) f.return (plain_char fs t r b flow sp ended at c cs rest f l w)
+    ∙ (ap (λ (u : Folding). lines_walk (front fs (InPlain u r b (c == 32))) (at + len_utf8 c) (cs ++ rest)) (sym (solid_is t c f.feed))
+    ∙ chars_go cs fs (with_char t c) r b flow (c == 32) ended (at + len_utf8 c) rest f.more l w)
+
+space_plain : (fs : List Frame) (t : Folding) (r : Role) (begun : ℕ) (sp : Bool) (at : ℕ) (rest : List ℕ) → taken fs (InPlain t r begun sp) at 32 rest ≡ Ok (front fs (InPlain (put_blank t 32) r begun true))
 unfolding taken in_plain
-plain_char fs t r b sp at c rest f = rw (f.colon, f.hash, f.feed, f.comma, f.left, f.right, f.left_brace, f.right_brace, f.space, f.tab) refl
+space_plain fs t r begun sp at rest = refl
 
-pub word_goes : (cs : List ℕ) (fs : List Frame) (x : List ℕ) (r : Role) (b : ℕ) (at : ℕ) (rest : List ℕ) → list_all is_plain cs ≡ true
-    → walk (front fs (InPlain (on_line x []) r b false)) at (cs ++ rest) ≡ walk (front fs (InPlain (on_line (x ++ encode_utf8_all cs) []) r b false)) (past at cs) rest
-word_goes [] fs x r b at rest a = ap (λ y. walk (front fs (InPlain (on_line y []) r b false)) at rest) (sym (append-nil x))
-word_goes (c ∷ cs) fs x r b at rest a =
-    let h : (is_plain c ≡ true) × (list_all is_plain cs ≡ true) = and_parts _ _ a in
-    let f : PlainFacts c = plain_facts c h.0 in
-    goes fs (InPlain (on_line x []) r b false) (front fs (InPlain (put (on_line x []) c) r b false)) at c (cs ++ rest) f.return (plain_char fs (on_line x []) r b false at c (cs ++ rest) f)
-    ∙ (ap (λ (t : Folding). walk (front fs (InPlain t r b false)) (at + len_utf8 c) (cs ++ rest)) (put_char x [] c)
-    ∙ (word_goes cs fs (x ++ encode_utf8 c) r b (at + len_utf8 c) rest h.1
-    ∙ ap (λ y. walk (front fs (InPlain (on_line y []) r b false)) (past at (c ∷ cs)) rest) (append_assoc x (encode_utf8 c) (encode_utf8_all cs))))
+pub spaces_plain : (n : ℕ) (fs : List Frame) (t : Folding) (r : Role) (begun : ℕ) (sp : Bool) (at : ℕ) (rest : List ℕ)
+    → lines_walk (front fs (InPlain t r begun sp)) at (spaces n ++ rest) ≡ lines_walk (front fs (InPlain (with_chars t (spaces n)) r begun (spaced_by sp n))) (past at (spaces n)) rest
+spaces_plain zero fs t r begun sp at rest = refl
+spaces_plain (suc n) fs t r begun sp at rest =
+    goes fs (InPlain t r begun sp) (front fs (InPlain (put_blank t 32) r begun true)) at 32 (spaces n ++ rest) refl (space_plain fs t r begun sp at (spaces n ++ rest))
+    ∙ (spaces_plain n fs (put_blank t 32) r begun true (at + 1) rest
+    ∙ ap (λ (v : Bool). lines_walk (front fs (InPlain (with_chars (put_blank t 32) (spaces n)) r begun v)) (past (at + 1) (spaces n)) rest) (still n))
 
-space_plain : (fs : List Frame) (x b : List ℕ) (r : Role) (begun : ℕ) (sp : Bool) (at : ℕ) (rest : List ℕ)
-    → taken fs (InPlain (on_line x b) r begun sp) at 32 rest ≡ Ok (front fs (InPlain (on_line x (b ++ 32 ∷ [])) r begun true))
-unfolding taken in_plain
-space_plain fs x b r begun sp at rest =
-    let e : encode_utf8 32 ≡ 32 ∷ [] = encode_ascii 32 (lit< tt) in rw e refl
+-- blanks are no part of the text so far
+by_seam : (m : Seam) (t : Folding) (c : ℕ) → (after_blank m t c).text ≡ t.text
+by_seam Inside t c = refl
+by_seam Folds t c = refl
+by_seam Joins t c = refl
 
-pub spaces_more : (b : List ℕ) (n : ℕ) → (b ++ 32 ∷ []) ++ spaces n ≡ b ++ spaces (suc n)
-spaces_more b n = append_assoc b (32 ∷ []) (spaces n)
-
-pub spaces_plain : (n : ℕ) (fs : List Frame) (x b : List ℕ) (r : Role) (begun : ℕ) (sp : Bool) (at : ℕ) (rest : List ℕ)
-    → walk (front fs (InPlain (on_line x b) r begun sp)) at (spaces n ++ rest) ≡ walk (front fs (InPlain (on_line x (b ++ spaces n)) r begun (spaced_by sp n))) (past at (spaces n)) rest
-spaces_plain zero fs x b r begun sp at rest = ap (λ y. walk (front fs (InPlain (on_line x y) r begun sp)) at rest) (sym (append-nil b))
-spaces_plain (suc n) fs x b r begun sp at rest =
-    goes fs (InPlain (on_line x b) r begun sp) (front fs (InPlain (on_line x (b ++ 32 ∷ [])) r begun true)) at 32 (spaces n ++ rest) refl (space_plain fs x b r begun sp at (spaces n ++ rest))
-    ∙ (spaces_plain n fs x (b ++ 32 ∷ []) r begun true (at + 1) rest
-    ∙ (ap (λ (v : Bool). walk (front fs (InPlain (on_line x ((b ++ 32 ∷ []) ++ spaces n)) r begun v)) (past (at + 1) (spaces n)) rest) (still n)
-    ∙ ap (λ y. walk (front fs (InPlain (on_line x y) r begun true)) (past (at + 1) (spaces n)) rest) (spaces_more b n)))
-
-pub spaces_bytes : (n : ℕ) → encode_utf8_all (spaces n) ≡ spaces n
-spaces_bytes zero = refl
-spaces_bytes (suc n) = let e : encode_utf8 32 ≡ 32 ∷ [] = encode_ascii 32 (lit< tt) in rw e (ap (λ y. 32 ∷ y) (spaces_bytes n))
-
--- words, from behind the first character on
-abbrev pub behind_first : Words → List ℕ
-behind_first (Word c cs) = cs
-behind_first (Then ws n c cs) = behind_first ws ++ (spaces (suc n) ++ c ∷ cs)
-
-abbrev pub first_of : Words → ℕ
-first_of (Word c cs) = c
-first_of (Then ws n c cs) = first_of ws
-
-pub words_parts : (ws : Words) → spell_words ws ≡ first_of ws ∷ behind_first ws
-words_parts (Word c cs) = refl
-words_parts (Then ws n c cs) = ap (λ y. y ++ (spaces (suc n) ++ c ∷ cs)) (words_parts ws)
-
-words_text : (x w : List ℕ) (n c : ℕ) (cs : List ℕ)
-    → ((x ++ encode_utf8_all w) ++ (spaces (suc n) ++ encode_utf8 c)) ++ encode_utf8_all cs ≡ x ++ encode_utf8_all (w ++ (spaces (suc n) ++ c ∷ cs))
-words_text x w n c cs =
-    let a : encode_utf8_all (w ++ (spaces (suc n) ++ c ∷ cs)) ≡ encode_utf8_all w ++ encode_utf8_all (spaces (suc n) ++ c ∷ cs) = encodes-append w (spaces (suc n) ++ c ∷ cs) in
-    let b : encode_utf8_all (spaces (suc n) ++ c ∷ cs) ≡ encode_utf8_all (spaces (suc n)) ++ encode_utf8_all (c ∷ cs) = encodes-append (spaces (suc n)) (c ∷ cs) in
-    let d : encode_utf8_all (spaces (suc n)) ≡ spaces (suc n) = spaces_bytes (suc n) in
-    rw (a, b, d) (append_assoc (x ++ encode_utf8_all w) (spaces (suc n) ++ encode_utf8 c) (encode_utf8_all cs)
-    ∙ (append_assoc x (encode_utf8_all w) ((spaces (suc n) ++ encode_utf8 c) ++ encode_utf8_all cs)
-    ∙ ap (λ zs. x ++ (encode_utf8_all w ++ zs)) (append_assoc (spaces (suc n)) (encode_utf8 c) (encode_utf8_all cs))))
-
--- all words behind the first character
-pub words_go : (ws : Words) (fs : List Frame) (x : List ℕ) (r : Role) (b : ℕ) (at : ℕ) (rest : List ℕ) → AreWords ws
-    → walk (front fs (InPlain (on_line x []) r b false)) at (behind_first ws ++ rest) ≡ walk (front fs (InPlain (on_line (x ++ encode_utf8_all (behind_first ws)) []) r b false)) (past at (behind_first ws)) rest
-words_go (Word c cs) fs x r b at rest a = word_goes cs fs x r b at rest a.1
-words_go (Then ws n c cs) fs x r b at rest a =
-    let w : List ℕ = behind_first ws in
-    let y : List ℕ = x ++ encode_utf8_all w in
-    let at1 : ℕ = past at w in
-    let at2 : ℕ = past at1 (spaces (suc n)) in
-    let f : PlainFacts c = plain_facts c a.1 in
-    ap (λ zs. walk (front fs (InPlain (on_line x []) r b false)) at zs) (append_assoc w (spaces (suc n) ++ c ∷ cs) rest ∙ ap (λ zs. w ++ zs) (append_assoc (spaces (suc n)) (c ∷ cs) rest))
-    ∙ (words_go ws fs x r b at (spaces (suc n) ++ ((c ∷ cs) ++ rest)) a.0
-    ∙ (spaces_plain (suc n) fs y [] r b false at1 ((c ∷ cs) ++ rest)
-    ∙ (goes fs (InPlain (on_line y (spaces (suc n))) r b true) (front fs (InPlain (put (on_line y (spaces (suc n))) c) r b false)) at2 c (cs ++ rest) f.return
-    (plain_char fs (on_line y (spaces (suc n))) r b true at2 c (cs ++ rest) f)
-    ∙ (ap (λ (t : Folding). walk (front fs (InPlain t r b false)) (at2 + len_utf8 c) (cs ++ rest)) (put_char y (spaces (suc n)) c)
-    ∙ (word_goes cs fs (y ++ (spaces (suc n) ++ encode_utf8 c)) r b (at2 + len_utf8 c) rest a.2
-    ∙ (ap (λ zs. walk (front fs (InPlain (on_line zs []) r b false)) (past (at2 + len_utf8 c) cs) rest) (words_text x w n c cs)
-    ∙ ap (λ m. walk (front fs (InPlain (on_line (x ++ encode_utf8_all (behind_first (Then ws n c cs))) []) r b false)) m rest) (sym (past_append w (spaces (suc n) ++ c ∷ cs) at ∙ past_append (spaces (suc n)) (c ∷ cs) at1))))))))
+pub spaces_text : (n : ℕ) (t : Folding) → (with_chars t (spaces n)).text ≡ t.text
+spaces_text zero t = refl
+spaces_text (suc n) t = spaces_text n (put_blank t 32) ∙ by_seam t.seam t 32

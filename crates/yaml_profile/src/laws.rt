@@ -3,9 +3,9 @@
 ghost use Rattle.std.specs.Prelude.{◌≡◌, ℕ, List, Ok, true};
 ghost use Rattle.std.specs.Str.{all_scalars, encode_utf8_all};
 ghost use Rattle.yaml_profile.specs.Reading.{reading};
-ghost use Rattle.yaml_profile.specs.Written.{File, IsFile, spell_file, block_value};
+ghost use Rattle.yaml_profile.specs.Written.{File, IsFile, spell_file, file_value};
 
 /// The bytes of a file that is a tree with its layout are read as the tree's value.
 pub fn written_files_are_read()
-    ensures { (f : File) → IsFile f → all_scalars (spell_file f) ≡ true → reading (encode_utf8_all (spell_file f)) ≡ Ok (block_value f.block) }
+    ensures { (f : File) → IsFile f → all_scalars (spell_file f) ≡ true → reading (encode_utf8_all (spell_file f)) ≡ Ok (file_value f) }
 {}
