@@ -221,12 +221,12 @@ markers_join t [] = text_marker t [] [] ∙ ap (λ (x : List ℕ). marker x ∷ 
 markers_join t (marker u ∷ qs) = text_marker t u qs
 markers_join t (word w ∷ qs) = text_marker t [] (word w ∷ qs) ∙ ap (λ (x : List ℕ). marker x ∷ word w ∷ qs) (append-nil t)
 
-no_marker : (t : List ℕ) (qs : List NamePart) → behind_marker [] (behind_marker t qs) ≡ behind_marker t qs
+pub no_marker : (t : List ℕ) (qs : List NamePart) → behind_marker [] (behind_marker t qs) ≡ behind_marker t qs
 no_marker t [] = refl
 no_marker t (marker u ∷ qs) = refl
 no_marker t (word w ∷ qs) = refl
 
-spells_cons : (p : PieceData) (ps : List PieceData) → spells (p ∷ ps) ≡ spell p ++ spells ps
+pub spells_cons : (p : PieceData) (ps : List PieceData) → spells (p ∷ ps) ≡ spell p ++ spells ps
 unfolding spells
 spells_cons p ps = refl
 

@@ -20,13 +20,18 @@ use Rattle.dt_names.specs.Pieces.{PieceData, lit, form, str, num}
 use Rattle.dt_names.specs.declared.piece.Params.{Params}
 use Rattle.dt_names.specs.declared.piece.Params.TheVariants as params
 
--- a definition: the node that it belongs to, the comment that stands before it (of the first of a node and of the first of the tree), its name, its parameters and its body
+-- a definition: the node that it belongs to, the comment that stands before it (of the first of a node and of the first of the tree), its name, its parameters and its body; a node's begins its name with the node's id, one of the tree has no id
 pub record FactData : Type 0 where
   pub owner : ℕ
   pub heading : Option (List ℕ)
-  pub name : List PieceData
+  pub base : List PieceData
+  pub rest : List PieceData
   pub params : Params
   pub body : List PieceData
+
+-- the name: the id and what is behind it
+abbrev pub full_name : FactData → List PieceData
+full_name f = f.base ++ f.rest
 
 -- over a list with its places, from a number on
 abbrev pub each : {A B : Type 0} → (ℕ → A → List B) → ℕ → List A → List B
@@ -110,13 +115,13 @@ visits ps (t ∷ ts) = visit ps t ++ flat_map (λ u. lit (between ps) ∷ visit 
 
 -- Definitions of a node
 
--- a definition that belongs to a node
+-- a definition of the tree, which belongs to a node
 abbrev pub fact : ℕ → List PieceData → Params → List PieceData → FactData
-fact owner name ps body = record { owner = owner; heading = None; name = name; params = ps; body = body }
+fact owner name ps body = record { owner = owner; heading = None; base = []; rest = name; params = ps; body = body }
 
 -- a definition of the node n of a path: the id, and what follows it
 abbrev pub of_node : ℕ → List ℕ → List PieceData → Params → List PieceData → FactData
-of_node n path after ps body = fact n (id_pieces path ++ after) ps body
+of_node n path after ps body = record { owner = n; heading = None; base = id_pieces path; rest = after; params = ps; body = body }
 
 -- one without parameters
 abbrev pub plain : ℕ → List ℕ → List PieceData → List PieceData → FactData

@@ -3,7 +3,7 @@ use Rattle.std.specs.Prelude.{◌≡◌, ◌++◌, ℕ, List, [], ◌∷◌, dec
 use Rattle.std.specs.List.{Contains}
 use Rattle.edt_base.specs.BoundData.{BoundData}
 use Rattle.edt_base.specs.Marks.{form_of}
-use Rattle.dt_names.specs.Facts.{FactData, facts}
+use Rattle.dt_names.specs.Facts.{FactData, facts, full_name}
 use Rattle.dt_names.specs.Pieces.{PieceData, lit, form, str, num, quoted, spells}
 
 -- a part of a name: a marker, or a word or number as it is spelled
@@ -27,4 +27,4 @@ name_parts (num n ∷ ps) = word (decimal n) ∷ name_parts ps
 
 -- the names of two definitions, of one bound tree or of two, are spelled alike only where their markers, words and numbers are the same
 abbrev pub NamesAreTold : Type 0
-NamesAreTold = (b c : BoundData) (f g : FactData) → Contains (facts b) f → Contains (facts c) g → spells f.name ≡ spells g.name → name_parts f.name ≡ name_parts g.name
+NamesAreTold = (b c : BoundData) (f g : FactData) → Contains (facts b) f → Contains (facts c) g → spells (full_name f) ≡ spells (full_name g) → name_parts (full_name f) ≡ name_parts (full_name g)

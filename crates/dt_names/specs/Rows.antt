@@ -75,7 +75,8 @@ abbrev pub fact_of : List NodeData → Row → FactData
 fact_of nodes r = record {
   owner = r.owner;
   heading = None;
-  name = (if r.of_tree then [] else id_at nodes r.owner) ++ (at_pieces r.at ++ ending_pieces r.ending);
+  base = if r.of_tree then [] else id_at nodes r.owner;
+  rest = at_pieces r.at ++ ending_pieces r.ending;
   params = r.params;
   body = body_pieces nodes r.owner r.params r.body;
 }

@@ -1,7 +1,7 @@
 //! The definitions on interrupts and on the entries of a phandle-array: each with its cells, by its
 //! place and by its name.
 
-ghost use Rattle.std.specs.Prelude.{◌≡◌, ◌∷◌, ◌++◌, [], MatchOption, Some, codes};
+ghost use Rattle.std.specs.Prelude.{◌≡◌, ◌∷◌, ◌++◌, [], MatchOption, Some, codes, option_map};
 ghost use Rattle.std.specs.List.{flat_map};
 ghost use Rattle.std.specs.Option.{option_map_or};
 ghost use Rattle.edt_base.specs.IndexData.{path_at};
@@ -228,9 +228,9 @@ impl<'a> EntryRows<'a> {
         ensures { result ≡ irq_facts n (path_at bound.now.tree.nodes n) i irq.now }
     {
         let indexed = EntryLines::of_irq(bound, n, At::Nth("_IRQ_IDX_", i), irq);
-        match &irq.name {
+        match irq_name(irq) {
             Some(name) => {
-                let at = At::Named("_IRQ_NAME_", name.as_str().as_bytes());
+                let at = At::Named("_IRQ_NAME_", name);
                 EntryRows {
                     indexed,
                     named: EntryLines::of_irq(bound, n, at, irq),
@@ -277,5 +277,15 @@ impl<'a> EntryRows<'a> {
             return Some(fact);
         }
         self.named.next()
+    }
+}
+
+// The name of an interrupt, where it has one.
+fn irq_name(irq: &Irq) -> Option<&[u8]>
+    ensures { option_map (λ m. m.now) result ≡ irq.now.name }
+{
+    match &irq.name {
+        Some(name) => Some(name.as_str().as_bytes()),
+        None => None,
     }
 }

@@ -1,18 +1,23 @@
 //! A definition, and the queue in which definitions that come together wait.
 
-ghost use Rattle.std.specs.Prelude.{◌≡◌, ◌∷◌, ◌++◌, [], MatchOption, Some, option_map};
+ghost use Rattle.std.specs.Prelude.{◌≡◌, ◌∷◌, ◌++◌, [], MatchOption, Some, codes, drop, false, option_map, take, true, if◌then◌else◌};
+ghost use Rattle.std.specs.Str.{bytes_eq};
+ghost use Rattle.dt_names.specs.Clash.{said};
+ghost use Rattle.dt_names.specs.Facts.{full_name};
+ghost use Rattle.dt_names.specs.Keys.{IsParted, is_of_prop};
 ghost use Rattle.dt_names.specs.Lists.{things_of};
 ghost use Rattle.dt_names.specs.Pieces.{lit, form, num};
-ghost use Rattle.dt_names.specs.Rows.{fact_of, at_pieces, ending_pieces, things_at, waiting, with_heading};
+ghost use Rattle.dt_names.specs.Rows.{body_pieces, fact_of, at_pieces, ending_pieces, things_at, waiting, with_heading};
 ghost use Rattle.dt_names.specs.Words.{pieces_in};
 
 use crate::child_place::node_count;
+use crate::held::Held;
 use crate::list::{Listed, Visited};
 use crate::piece::{Params, Piece};
 use crate::pieces::Pieces;
 use crate::place::Places;
 use crate::row::{At, Body, Ending, Row, Things};
-use crate::word::{Id, Word};
+use crate::word::{Id, Name, Word};
 use crate::words::Words;
 use edt_base::Bound;
 use std::marker::Model;
@@ -67,7 +72,7 @@ impl<'a> Fact<'a> {
 
     /// The name, in pieces.
     pub fn name(&self) -> Pieces<'a>
-        ensures { result ≡ self.now.name }
+        ensures { result ≡ full_name self.now }
     {
         let row = self.row;
         let id = if row.of_tree {
@@ -78,23 +83,46 @@ impl<'a> Fact<'a> {
         Pieces::new(name_words(id, row.at, row.ending), Listed::Nothing)
     }
 
+    /// The property that the name speaks of, in pieces; none where it speaks of none.
+    pub(crate) fn prop(&self) -> Pieces<'a>
+        ensures { result ≡ (if is_of_prop self.now.rest then take 2 self.now.rest else []) }
+    {
+        match of_prop(self.row.at, self.row.ending) {
+            Some((words, _, _)) => Pieces::new(words, Listed::Nothing),
+            None => Pieces::new(Words::none(), Listed::Nothing),
+        }
+    }
+
+    /// What the name has behind the id and the property, in pieces.
+    pub(crate) fn last(&self) -> Pieces<'a>
+        ensures { result ≡ (if is_of_prop self.now.rest then drop 2 self.now.rest else self.now.rest) }
+    {
+        let row = self.row;
+        let (at, ending) = match of_prop(row.at, row.ending) {
+            Some((_, at, ending)) => (at, ending),
+            None => (row.at, row.ending),
+        };
+        Pieces::new(name_words(None, at, ending), Listed::Nothing)
+    }
+
     /// The body, in pieces.
     pub fn body(&self) -> Pieces<'a>
         ensures { result ≡ self.now.body }
     {
         let row = self.row;
-        match row.body {
-            Body::One(piece) => Pieces::new(Words::one(Word::One(piece)), Listed::Nothing),
-            Body::Id(id) => {
-                let id = Id::of(self.bound, id);
-                Pieces::new(Words::one(Word::Id(id)), Listed::Nothing)
-            }
-            Body::Ords(ords) => Pieces::new(Words::none(), Listed::Ords(ords)),
-            Body::Braces(values) => Pieces::new(Words::none(), Listed::Braces(values)),
-            Body::Visits(things) => {
-                let visited = visited(self.bound, row.owner, things);
-                Pieces::new(Words::none(), Listed::Visits(row.params, visited))
-            }
+        body_of(self.bound, row.owner, row.params, row.body)
+    }
+
+    /// What it says besides its name.
+    pub(crate) fn held(&self) -> Held<'a>
+        ensures { result ≡ said self.now }
+    {
+        let row = self.row;
+        Held {
+            bound: self.bound,
+            owner: row.owner,
+            params: row.params,
+            body: row.body,
         }
     }
 
@@ -104,6 +132,30 @@ impl<'a> Fact<'a> {
         ensures { option_map (λ h. h.now) result ≡ self.now.heading }
     {
         self.heading
+    }
+}
+
+/// The pieces of a body, of a definition of a node.
+pub(crate) fn body_of<'a>(
+    bound: &'a Bound,
+    owner: usize,
+    params: Params,
+    body: Body<'a>,
+) -> Pieces<'a>
+    ensures { result ≡ body_pieces bound.now.tree.nodes owner params body.entry }
+{
+    match body {
+        Body::One(piece) => Pieces::new(Words::one(Word::One(piece)), Listed::Nothing),
+        Body::Id(id) => {
+            let id = Id::of(bound, id);
+            Pieces::new(Words::one(Word::Id(id)), Listed::Nothing)
+        }
+        Body::Ords(ords) => Pieces::new(Words::none(), Listed::Ords(ords)),
+        Body::Braces(values) => Pieces::new(Words::none(), Listed::Braces(values)),
+        Body::Visits(things) => {
+            let visited = visited(bound, owner, things);
+            Pieces::new(Words::none(), Listed::Visits(params, visited))
+        }
     }
 }
 
@@ -153,6 +205,57 @@ fn name_words<'a>(id: Option<Word<'a>>, at: At<'a>, ending: Ending<'a>) -> Words
             )
         }
     }
+}
+
+// Where a name speaks of a property: the words of this, and what is behind them.
+fn of_prop<'a>(at: At<'a>, ending: Ending<'a>) -> Option<(Words<'a>, At<'a>, Ending<'a>)>
+    ensures { MatchOption result (is_of_prop (at_pieces at.entry ++ ending_pieces ending.entry) ≡ false)
+        (λ r. IsParted (at_pieces at.entry ++ ending_pieces ending.entry) r.0 (at_pieces r.1 ++ ending_pieces r.2)) }
+{
+    match at {
+        At::Itself => {
+            let (words, ending) = word_of_prop(ending)?;
+            Some((words, At::Itself, ending))
+        }
+        At::Nth(_, _) => None,
+        At::Named(mark, word) => {
+            let words = marked_prop(mark, word)?;
+            Some((words, At::Itself, ending))
+        }
+        At::Prop(name) => Some((named_prop(name), At::Itself, ending)),
+        At::Elem(name, place) => Some((named_prop(name), At::Nth("_IDX_", place), ending)),
+        At::Entry(name, word) => Some((named_prop(name), At::Named("_NAME_", word), ending)),
+    }
+}
+
+// The same of the ending of a name that says nothing before it.
+fn word_of_prop<'a>(ending: Ending<'a>) -> Option<(Words<'a>, Ending<'a>)>
+    ensures { MatchOption result (is_of_prop (ending_pieces ending.entry) ≡ false)
+        (λ r. IsParted (ending_pieces ending.entry) r.0 (ending_pieces r.1)) }
+{
+    match ending {
+        Ending::Word(mark, word) => Some((marked_prop(mark, word)?, Ending::Nothing)),
+        Ending::Between(mark, word, after) => Some((marked_prop(mark, word)?, Ending::Mark(after))),
+        _ => None,
+    }
+}
+
+// A marker and a word, where they are a property.
+fn marked_prop<'a>(mark: &'static str, word: &'a [u8]) -> Option<Words<'a>>
+    ensures { MatchOption result (bytes_eq mark.now (codes "_P_") ≡ false)
+        (λ r. (bytes_eq mark.now (codes "_P_") ≡ true) × (r ≡ lit mark.now ∷ form word.now ∷ [])) }
+{
+    if mark == "_P_" {
+        return Some(Words::two(Word::One(Piece::Lit(mark)), Word::One(Piece::Form(word))));
+    }
+    None
+}
+
+// The words of a property.
+fn named_prop<'a>(name: Name<'a>) -> Words<'a>
+    ensures { result ≡ lit (codes "_P_") ∷ form name.entry.text.now ∷ [] }
+{
+    Words::two(Word::One(Piece::Lit("_P_")), Word::Name(name))
 }
 
 // The words that a name begins with, and its ending.

@@ -25,8 +25,8 @@ pub fn form(alloc: Global, t: &Text) -> Result<Text, AllocError>
     Ok(Text::new(form))
 }
 
-// What a byte of a text gives to its form: nothing where it continues a character.
-fn form_char(byte: u8) -> Option<u8>
+/// What a byte of a text gives to its form: nothing where it continues a character.
+pub(crate) fn form_char(byte: u8) -> Option<u8>
     ensures gives { option_to_list result ≡ form_char byte }
     ensures ascii { IfSome result (λ c. c < 128) }
 {

@@ -1,8 +1,9 @@
-//! All definitions of a node.
+//! All definitions of a node, in two parts: those before its properties, and those on them.
 
 ghost use Rattle.std.specs.Prelude.{◌≡◌, ◌∷◌, [], MatchOption, option_map, slice_get, unwrap_or};
 ghost use Rattle.edt_base.specs.IndexData.{path_at};
 ghost use Rattle.dt_names.specs.Facts.{node_facts, titled, titled_node};
+ghost use Rattle.dt_names.specs.Sections.{head_facts, head_section, props_at};
 
 use crate::child_place::children;
 use crate::child_rows::ChildRows;
@@ -14,38 +15,36 @@ use crate::prop_rows::PropsRows;
 use edt_base::{Bound, BoundNode, NodeRec, Prop};
 use std::marker::Model;
 
-/// The definitions of a node that are left.
+/// The definitions of a node before those on its properties that are left.
 #[derive(Drop)]
-struct NodeRows<'a> {
+struct HeadRows<'a> {
     path: Queue<'a>,
     children: ChildRows<'a>,
     order: Queue<'a>,
     matches: MatchRows<'a>,
     resources: ResourceRows<'a>,
-    props: PropsRows<'a>,
 }
 
-impl<'a> Model for NodeRows<'a> {
+impl<'a> Model for HeadRows<'a> {
     ghost use Rattle.std.specs.Prelude.{◌++◌, List};
     ghost use Rattle.dt_names.specs.Facts.{FactData};
 
     ghost Value = { List FactData };
 
-    ghost view = { λ s. s.path ++ (s.children ++ (s.order ++ (s.matches ++ (s.resources ++ s.props)))) };
+    ghost view = { λ s. s.path ++ (s.children ++ (s.order ++ (s.matches ++ s.resources))) };
 }
 
-impl<'a> NodeRows<'a> {
-    fn new(bound: &'a Bound, n: u32, node: &'a NodeRec, bind: &'a BoundNode) -> NodeRows<'a>
+impl<'a> HeadRows<'a> {
+    fn new(bound: &'a Bound, n: u32, node: &'a NodeRec, bind: &'a BoundNode) -> HeadRows<'a>
         requires { path_at bound.now.tree.nodes n ≡ node.now.path }
-        ensures { result ≡ node_facts bound.now n node.now bind.now }
+        ensures { result ≡ head_facts bound.now n node.now bind.now }
     {
-        NodeRows {
+        HeadRows {
             path: path_rows(bound, n, node),
             children: ChildRows::new(bound, n, children(node)),
             order: order_rows(bound, n, bind),
             matches: MatchRows::new(bound, n, node, bind),
             resources: ResourceRows::new(bound, n, bind),
-            props: PropsRows::new(bound, n, props_of(bind)),
         }
     }
 
@@ -64,21 +63,19 @@ impl<'a> NodeRows<'a> {
         if let Some(fact) = self.matches.next() {
             return Some(fact);
         }
-        if let Some(fact) = self.resources.next() {
-            return Some(fact);
-        }
-        self.props.next()
+        self.resources.next()
     }
 }
 
-/// The definitions of a node that are left, the first of which has the node's comment.
+/// The definitions of a node before those on its properties that are left, the first of which has
+/// the node's comment.
 #[derive(Drop)]
-pub(crate) struct TitledNode<'a> {
+pub(crate) struct TitledHead<'a> {
     title: Option<&'a [u8]>,
-    rows: NodeRows<'a>,
+    rows: HeadRows<'a>,
 }
 
-impl<'a> Model for TitledNode<'a> {
+impl<'a> Model for TitledHead<'a> {
     ghost use Rattle.std.specs.Prelude.{List, option_map};
     ghost use Rattle.dt_names.specs.Facts.{FactData};
     ghost use Rattle.dt_names.specs.Rows.{titled_by};
@@ -88,20 +85,20 @@ impl<'a> Model for TitledNode<'a> {
     ghost view = { λ s. titled_by (option_map (λ t. t.now) s.title) s.rows };
 }
 
-impl<'a> TitledNode<'a> {
+impl<'a> TitledHead<'a> {
     /// Those of the node n.
     pub(crate) fn new(
         bound: &'a Bound,
         n: u32,
         node: &'a NodeRec,
         bind: &'a BoundNode,
-    ) -> TitledNode<'a>
+    ) -> TitledHead<'a>
         requires { path_at bound.now.tree.nodes n ≡ node.now.path }
-        ensures { result ≡ titled node.now.path (node_facts bound.now n node.now bind.now) }
+        ensures { result ≡ titled node.now.path (head_facts bound.now n node.now bind.now) }
     {
-        TitledNode {
+        TitledHead {
             title: Some(node.path.as_str().as_bytes()),
-            rows: NodeRows::new(bound, n, node, bind),
+            rows: HeadRows::new(bound, n, node, bind),
         }
     }
 
@@ -115,6 +112,70 @@ impl<'a> TitledNode<'a> {
         };
         self.title = None;
         Some(fact.titled(title))
+    }
+}
+
+/// The definitions of a node that are left.
+#[derive(Drop)]
+pub(crate) struct TitledNode<'a> {
+    head: TitledHead<'a>,
+    props: PropsRows<'a>,
+}
+
+impl<'a> Model for TitledNode<'a> {
+    ghost use Rattle.std.specs.Prelude.{◌++◌, List};
+    ghost use Rattle.dt_names.specs.Facts.{FactData};
+
+    ghost Value = { List FactData };
+
+    ghost view = { λ s. s.head ++ s.props };
+}
+
+impl<'a> TitledNode<'a> {
+    #[tactic(auto, using(crate::proofs::Parted::node_parts))]
+    /// Those of the node n, the first of which has the node's comment.
+    pub(crate) fn new(
+        bound: &'a Bound,
+        n: u32,
+        node: &'a NodeRec,
+        bind: &'a BoundNode,
+    ) -> TitledNode<'a>
+        requires { path_at bound.now.tree.nodes n ≡ node.now.path }
+        ensures { result ≡ titled node.now.path (node_facts bound.now n node.now bind.now) }
+    {
+        TitledNode {
+            head: TitledHead::new(bound, n, node, bind),
+            props: PropsRows::new(bound, n, props_of(bind)),
+        }
+    }
+
+    /// The next definition; None exactly after the last.
+    pub(crate) fn next(&mut self) -> Option<Fact<'a>>
+        ensures { MatchOption result ((self.old ≡ []) × (self.new ≡ [])) (λ x. self.old ≡ x ∷ self.new) }
+    {
+        if let Some(fact) = self.head.next() {
+            return Some(fact);
+        }
+        self.props.next()
+    }
+}
+
+/// The definitions of the node n before those on its properties, with its comment.
+pub(crate) fn titled_head<'a>(bound: &'a Bound, n: u32, node: &'a NodeRec) -> Option<TitledHead<'a>>
+    requires { path_at bound.now.tree.nodes n ≡ node.now.path }
+    ensures { unwrap_or result [] ≡ head_section bound.now n node.now }
+{
+    let bind = bind_at(bound, n)?;
+    Some(TitledHead::new(bound, n, node, bind))
+}
+
+/// The properties that are bound to the node at a place.
+pub(crate) fn props_at(bound: &Bound, n: u32) -> &[Prop]
+    ensures { result.now ≡ props_at bound.now n }
+{
+    match bind_at(bound, n) {
+        Some(bind) => props_of(bind),
+        None => &[],
     }
 }
 

@@ -22,7 +22,7 @@ use std::marker::Model;
 
 /// The definitions on a property that are left.
 #[derive(Drop)]
-struct PropRows<'a> {
+pub(crate) struct PropRows<'a> {
     value: Single<'a>,
     choice: Queue<'a>,
     elems: ElemRows<'a>,
@@ -63,7 +63,8 @@ impl<'a> PropRows<'a> {
         }
     }
 
-    fn next(&mut self) -> Option<Fact<'a>>
+    /// The next definition; None exactly after the last.
+    pub(crate) fn next(&mut self) -> Option<Fact<'a>>
         ensures { MatchOption result ((self.old ≡ []) × (self.new ≡ [])) (λ x. self.old ≡ x ∷ self.new) }
     {
         if let Some(fact) = self.value.next() {
@@ -264,8 +265,8 @@ fn is_compound(ty: PropType) -> bool
     }
 }
 
-// The definitions on a property, where it makes some.
-fn shown<'a>(bound: &'a Bound, n: u32, prop: &'a Prop) -> Option<PropRows<'a>>
+/// The definitions on a property, where it makes some.
+pub(crate) fn shown<'a>(bound: &'a Bound, n: u32, prop: &'a Prop) -> Option<PropRows<'a>>
     ensures { unwrap_or result [] ≡ prop_facts bound.now.tree.nodes n (path_at bound.now.tree.nodes n) prop.now }
 {
     if is_shown(prop) {
