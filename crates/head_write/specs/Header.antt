@@ -2,7 +2,7 @@
 use Rattle.std.specs.Prelude.{◌+◌, ◌==◌, ◌++◌, ℕ, Bool, false, List, [], ◌∷◌, Option, None, Some, codes, if◌then◌else◌}
 use Rattle.std.specs.List.{flat_map}
 use Rattle.edt_base.specs.BoundData.{BoundData}
-use Rattle.dt_names.specs.Facts.{FactData, facts}
+use Rattle.dt_names.specs.Facts.{FactData, facts, full_name}
 use Rattle.dt_names.specs.Pieces.{PieceData, spells}
 use Rattle.dt_names.specs.declared.piece.Params.{Params}
 use Rattle.dt_names.specs.declared.piece.Params.TheVariants.{Plain, Fn, FnSep, FnVargs}
@@ -22,7 +22,7 @@ body_text (p ∷ ps) = codes " " ++ spells (p ∷ ps)
 
 -- the line of a definition
 unfoldable pub line : FactData → List ℕ
-line f = codes "#define " ++ (spells f.name ++ (params_text f.params ++ (body_text f.body ++ codes "\n")))
+line f = codes "#define " ++ (spells (full_name f) ++ (params_text f.params ++ (body_text f.body ++ codes "\n")))
 
 -- the comment before a definition, where one stands there
 unfoldable pub heading_text : Option (List ℕ) → List ℕ
