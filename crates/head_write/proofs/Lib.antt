@@ -1,3 +1,4 @@
 pub mod Doubles
 pub mod Puts
+pub mod Roots
 pub mod Runs
