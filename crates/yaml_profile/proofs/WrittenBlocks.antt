@@ -9,7 +9,8 @@ use Rattle.yaml_profile.specs.Pieces.{begin_value, open_list}
 use Rattle.yaml_profile.specs.Layout.{one_line_more, ended, is_fresh, block_line, value_on_line, begin_on_line, settle, next_entry, next_item, is_dash}
 use Rattle.yaml_profile.specs.Reading.{taken}
 use Rattle.yaml_profile.specs.Written.{spaces, Ending, Bare, Noted, spell_ending, IsEnding, IsApart, spell_gaps, AreGaps, Key, spell_key, IsKey, Node, Nothing, Beside, Below, Item, Of, MapOnLine, spell_node, spell_block, spell_item, IsNode, IsItem}
-use Rattle.yaml_profile.proofs.WrittenTexts.{lines_walk, past, past_append, after_char}
+use Rattle.yaml_profile.proofs.WrittenTexts.{after_char}
+use Rattle.yaml_profile.proofs.ReadSteps.{line_walk, past, past_append, with_returns}
 use Rattle.yaml_profile.proofs.WrittenLines.{Reads, begin_run, gap_reads, nothing_reads}
 use Rattle.yaml_profile.proofs.WrittenKeys.{lt_true, lt_false, eq_self, not_full, and_false, Content, dash_content, content_line, Starts, started_by, key_started, is_pending, pending_line, settle_line}
 use Rattle.yaml_profile.proofs.WrittenOpen.{Over, settle_stays}
@@ -25,24 +26,21 @@ column_is n s = rw (past_spaces n s) (omega arith)
 
 -- ---- the front of a text behind a dash or colon
 
-space_word : (n : ℕ) (rest : List ℕ) → ends_word (spaces (suc n) ++ rest) ≡ true
-space_word n rest = refl
-
-pub ending_word : (e : Ending) (rest : List ℕ) → IsApart e → ends_word (spell_ending e ++ rest) ≡ true
+pub ending_word : (e : Ending) (rest : List ℕ) → IsApart e → ends_word (with_returns (spell_ending e ++ rest)) ≡ true
 ending_word (Bare zero) rest a = refl
 ending_word (Bare (suc n)) rest a = refl
 ending_word (Noted zero text) rest a = absurd (omega arith)
 ending_word (Noted (suc n) text) rest a = refl
 
-joined_word : (e : Ending) (ys rest : List ℕ) → IsApart e → ends_word ((spell_ending e ++ ys) ++ rest) ≡ true
-joined_word e ys rest a = ap ends_word (append_assoc (spell_ending e) ys rest) ∙ ending_word e (ys ++ rest) a
+joined_word : (e : Ending) (ys rest : List ℕ) → IsApart e → ends_word (with_returns ((spell_ending e ++ ys) ++ rest)) ≡ true
+joined_word e ys rest a = ap (λ zs. ends_word (with_returns zs)) (append_assoc (spell_ending e) ys rest) ∙ ending_word e (ys ++ rest) a
 
-pub node_word : (x : Node) (column : ℕ) (in_map : Bool) (level : ℕ) (rest : List ℕ) → IsNode column in_map level x → ends_word (spell_node x ++ rest) ≡ true
+pub node_word : (x : Node) (column : ℕ) (in_map : Bool) (level : ℕ) (rest : List ℕ) → IsNode column in_map level x → ends_word (with_returns (spell_node x ++ rest)) ≡ true
 node_word (Nothing e gaps) column in_map level rest h = joined_word e (spell_gaps gaps) rest h.1
 node_word (Beside n l) column in_map level rest h = refl
 node_word (Below e gaps b) column in_map level rest h = joined_word e (spell_gaps gaps ++ spell_block b) rest h.1
 
-pub item_word : (i : Item) (column level : ℕ) (rest : List ℕ) → IsItem column level i → ends_word (spell_item column i ++ rest) ≡ true
+pub item_word : (i : Item) (column level : ℕ) (rest : List ℕ) → IsItem column level i → ends_word (with_returns (spell_item column i ++ rest)) ≡ true
 item_word (Of x) column level rest h = node_word x column false level rest h
 item_word (MapOnLine n es) column level rest h = refl
 
@@ -59,7 +57,7 @@ pub record Kept (w : Waiting) (es : List Ending) (fs : List Frame) (s at : ℕ) 
   pub pending : is_pending wait ≡ is_pending w
   pub fresh : is_fresh wait ≡ is_fresh w
   pub value : value_so_far wait ≡ value_so_far w
-  pub run : (rest : List ℕ) → lines_walk (front fs (AtLine s w)) at (spell_gaps es ++ rest) ≡ lines_walk (front fs (AtLine (past at (spell_gaps es)) wait)) (past at (spell_gaps es)) rest
+  pub run : (rest : List ℕ) → line_walk (front fs (AtLine s w)) at (spell_gaps es ++ rest) ≡ line_walk (front fs (AtLine (past at (spell_gaps es)) wait)) (past at (spell_gaps es)) rest
 
 more_pending : (w : Waiting) → is_pending (one_line_more w) ≡ is_pending w
 more_pending Fresh = refl
@@ -96,7 +94,7 @@ gap_fresh (Bare n) fs s w at h = more_fresh w
 gap_fresh (Noted n text) fs s w at h = ended_fresh w
 
 pub gaps_wait : (es : List Ending) (fs : List Frame) (s : ℕ) (w : Waiting) (at : ℕ) → s ≡ at → AreGaps es → Kept w es fs s at
-gaps_wait [] fs s w at same h = record { wait = w; pending = refl; fresh = refl; value = refl; run = λ rest. ap (λ m. lines_walk (front fs (AtLine m w)) at rest) same }
+gaps_wait [] fs s w at same h = record { wait = w; pending = refl; fresh = refl; value = refl; run = λ rest. ap (λ m. line_walk (front fs (AtLine m w)) at rest) same }
 gaps_wait (e ∷ es) fs s w at same h =
     let r : Reads (front fs (AtLine s w)) at (spell_ending e) fs (value_so_far w) = gap_reads e fs s w at h.0 in
     let m : ℕ = past at (spell_ending e) in
@@ -106,8 +104,8 @@ gaps_wait (e ∷ es) fs s w at same h =
       pending = q.pending ∙ gap_pending e fs s w at h.0;
       fresh = q.fresh ∙ gap_fresh e fs s w at h.0;
       value = q.value ∙ r.is;
-      run = λ rest. ap (λ zs. lines_walk (front fs (AtLine s w)) at zs) (append_assoc (spell_ending e) (spell_gaps es) rest)
-          ∙ (r.run (spell_gaps es ++ rest) ∙ (q.run rest ∙ ap (λ k. lines_walk (front fs (AtLine k q.wait)) k rest) (sym (past_append (spell_ending e) (spell_gaps es) at))));
+      run = λ rest. ap (λ zs. line_walk (front fs (AtLine s w)) at zs) (append_assoc (spell_ending e) (spell_gaps es) rest)
+          ∙ (r.run (spell_gaps es ++ rest) ∙ (q.run rest ∙ ap (λ k. line_walk (front fs (AtLine k q.wait)) k rest) (sym (past_append (spell_ending e) (spell_gaps es) at))));
     }
 
 nothing_wait : (e : Ending) (fs : List Frame) (s : ℕ) (m sp : Bool) (at : ℕ) (h : IsEnding e) (a : IsApart e) → (nothing_reads e fs s m sp at h a).wait ≡ NothingYet
@@ -120,7 +118,7 @@ nothing_wait (Noted (suc n) text) fs s m sp at h a = refl
 pub record Down (fs : List Frame) (s : ℕ) (m sp : Bool) (at : ℕ) (xs : List ℕ) : Type 0 where
   pub wait : Waiting
   pub pending : is_pending wait ≡ true
-  pub run : (rest : List ℕ) → lines_walk (front fs (AtValue s m sp)) at (xs ++ rest) ≡ lines_walk (front fs (AtLine (past at xs) wait)) (past at xs) rest
+  pub run : (rest : List ℕ) → line_walk (front fs (AtValue s m sp)) at (xs ++ rest) ≡ line_walk (front fs (AtLine (past at xs) wait)) (past at xs) rest
 
 pub down : (e : Ending) (gaps : List Ending) (fs : List Frame) (s : ℕ) (m sp : Bool) (at : ℕ) → IsEnding e → IsApart e → AreGaps gaps → Down fs s m sp at (spell_ending e ++ spell_gaps gaps)
 down e gaps fs s m sp at h a g =
@@ -130,10 +128,10 @@ down e gaps fs s m sp at h a g =
     record {
       wait = k.wait;
       pending = k.pending;
-      run = λ rest. ap (λ zs. lines_walk (front fs (AtValue s m sp)) at zs) (append_assoc (spell_ending e) (spell_gaps gaps) rest)
+      run = λ rest. ap (λ zs. line_walk (front fs (AtValue s m sp)) at zs) (append_assoc (spell_ending e) (spell_gaps gaps) rest)
           ∙ (r.run (spell_gaps gaps ++ rest)
-          ∙ (ap (λ (w : Waiting). lines_walk (front fs (AtLine p w)) p (spell_gaps gaps ++ rest)) (nothing_wait e fs s m sp at h a)
-          ∙ (k.run rest ∙ ap (λ q. lines_walk (front fs (AtLine q k.wait)) q rest) (sym (past_append (spell_ending e) (spell_gaps gaps) at)))));
+          ∙ (ap (λ (w : Waiting). line_walk (front fs (AtLine p w)) p (spell_gaps gaps ++ rest)) (nothing_wait e fs s m sp at h a)
+          ∙ (k.run rest ∙ ap (λ q. line_walk (front fs (AtLine q k.wait)) q rest) (sym (past_append (spell_ending e) (spell_gaps gaps) at)))));
     }
 
 -- ---- the frames that a node stands on
@@ -156,7 +154,7 @@ under_list own level vs fs e = record { flow = refl; deep = λ n h. lt_true own 
 -- a key begins where something takes its first character as the beginning of a value
 pub on_key : (k : Key) (place : Option ℕ) (fs : List Frame) (i : Innermost) (gs : List Frame) (role : Role) (at : ℕ) (rest : List ℕ) → IsKey place k
     → ((c : ℕ) (cs : List ℕ) → Starts place false c cs → taken fs i at c cs ≡ begin_value gs role at c cs)
-    → lines_walk (front fs i) at (spell_key k ++ 58 ∷ rest) ≡ begin_run gs role at (spell_key k ++ 58 ∷ rest)
+    → line_walk (front fs i) at (spell_key k ++ 58 ∷ rest) ≡ begin_run gs role at (spell_key k ++ 58 ∷ rest)
 on_key k place fs i gs role at rest h step = started_by place false false (spell_key k) (key_started k place h) fs gs i role at (58 ∷ rest) (after_char 58 rest false refl refl refl refl) step
 
 -- the first key of a map, on a line of its own

@@ -8,13 +8,13 @@ use Rattle.edt_base.specs.YamlData.{Value}
 use Rattle.yaml_profile.specs.declared.stop.Broken.{Broken}
 use Rattle.std.specs.Char.{encode_utf8, len_utf8}
 use Rattle.yaml_profile.specs.Fronts.{Frame, Fresh, AtLine, all_closed, value_so_far, is_flow}
-use Rattle.yaml_profile.proofs.WrittenTexts.{past}
+use Rattle.yaml_profile.proofs.ReadSteps.{past, ReadsOn}
 use Rattle.yaml_profile.proofs.WrittenScalars.{Stand, stands, stand_wait, stand_ends}
 use Rattle.yaml_profile.specs.Reading.{at_start, ends, characters, reading}
 use Rattle.yaml_profile.specs.Written.{File, spell_whole, spell_file, IsFile, file_value}
 use Rattle.yaml_profile.proofs.Utf8Laws.{is_whole-utf8}
 use Rattle.yaml_profile.proofs.WrittenFiles.{Walked, written_is_walked}
-use Rattle.yaml_profile.proofs.WrittenEnds.{Finishes, Read, ends_so, cut_of}
+use Rattle.yaml_profile.proofs.WrittenEnds.{Finishes, ends_so, cut_of}
 
 pub characters_are : (cs : List ℕ) → all_scalars cs ≡ true → characters (encode_utf8_all cs) ≡ cs
 characters_are cs h =
@@ -47,7 +47,7 @@ read_bytes cs v h r =
     let w : ends r.front.frames r.front.inner n ≡ Ok v = subst (λ (m : ℕ). ends r.front.frames r.front.inner m ≡ Ok v) e r.value in
     rw (characters_are cs h, r.run, is_whole-utf8 (encode_utf8_all cs) u) w
 
-whole_read : (xs : List ℕ) (v : Value) → Walked xs v → Read at_start 0 xs v
+whole_read : (xs : List ℕ) (v : Value) → Walked xs v → ReadsOn at_start 0 xs v
 whole_read xs v r = rw r.run (at_end r.stand r.frames r.at (past 0 xs) v (sym r.place) r.flow r.all)
 
 pub written_is_read : (f : File) → IsFile f → all_scalars (spell_file f) ≡ true → reading (encode_utf8_all (spell_file f)) ≡ Ok (file_value f)

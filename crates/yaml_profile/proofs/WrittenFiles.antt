@@ -7,7 +7,8 @@ use Rattle.yaml_profile.specs.Fronts.{Frame, Waiting, Fresh, Nothing as NothingY
 use Rattle.yaml_profile.specs.Layout.{in_line, line_content, in_mark, is_fresh}
 use Rattle.yaml_profile.specs.Reading.{at_start, taken}
 use Rattle.yaml_profile.specs.Written.{Ending, spell_ending, IsEnding, IsApart, spell_gaps, Head, Unmarked, Marked, spell_head, IsHead, Block, Map, Dashes, Alone, spell_block, spell_body, IsBody, body_value, File, spell_whole, file_value, IsFile}
-use Rattle.yaml_profile.proofs.WrittenTexts.{lines_walk, past, past_append, goes}
+use Rattle.yaml_profile.proofs.WrittenTexts.{goes}
+use Rattle.yaml_profile.proofs.ReadSteps.{line_walk, past, past_append, with_returns}
 use Rattle.yaml_profile.proofs.WrittenKeys.{is_pending}
 use Rattle.yaml_profile.proofs.WrittenFlows.{after_ends}
 use Rattle.yaml_profile.proofs.WrittenOpen.{open_block, left_block, over_entries, over_items, over_key, closes_block}
@@ -38,15 +39,15 @@ third_dash fs at rest = refl
 record Headed (xs : List ℕ) : Type 0 where
   wait : Waiting
   pending : is_pending wait ≡ true
-  run : (rest : List ℕ) → lines_walk at_start 0 (xs ++ rest) ≡ lines_walk (front [] (AtLine (past 0 xs) wait)) (past 0 xs) rest
+  run : (rest : List ℕ) → line_walk at_start 0 (xs ++ rest) ≡ line_walk (front [] (AtLine (past 0 xs) wait)) (past 0 xs) rest
 
 marked_run : (e : Ending) (w : Waiting) (s : ℕ) (rest : List ℕ) → is_fresh w ≡ true → IsEnding e → IsApart e
-    → lines_walk (front [] (AtLine s w)) s ((45 ∷ 45 ∷ 45 ∷ spell_ending e) ++ rest) ≡ lines_walk (front [] (AtLine (past s (45 ∷ 45 ∷ 45 ∷ spell_ending e)) NothingYet)) (past s (45 ∷ 45 ∷ 45 ∷ spell_ending e)) rest
+    → line_walk (front [] (AtLine s w)) s ((45 ∷ 45 ∷ 45 ∷ spell_ending e) ++ rest) ≡ line_walk (front [] (AtLine (past s (45 ∷ 45 ∷ 45 ∷ spell_ending e)) NothingYet)) (past s (45 ∷ 45 ∷ 45 ∷ spell_ending e)) rest
 marked_run e w s rest f h a =
     let ys : List ℕ = spell_ending e ++ rest in
-    goes [] (AtLine s w) (front [] (InMark 2)) s 45 (45 ∷ 45 ∷ ys) refl (mark_taken w [] s ys f refl (ending_word e rest a))
-    ∙ (goes [] (InMark 2) (front [] (InMark 1)) (s + 1) 45 (45 ∷ ys) refl (second_dash [] (s + 1) (45 ∷ ys))
-    ∙ (goes [] (InMark 1) (front [] (AfterValue NothingYet false)) (s + 1 + 1) 45 ys refl (third_dash [] (s + 1 + 1) ys)
+    goes [] (AtLine s w) (front [] (InMark 2)) s 45 (45 ∷ 45 ∷ ys) (mark_taken w [] s (with_returns ys) f refl (ending_word e rest a))
+    ∙ (goes [] (InMark 2) (front [] (InMark 1)) (s + 1) 45 (45 ∷ ys) (second_dash [] (s + 1) (with_returns (45 ∷ ys)))
+    ∙ (goes [] (InMark 1) (front [] (AfterValue NothingYet false)) (s + 1 + 1) 45 ys (third_dash [] (s + 1 + 1) (with_returns ys))
     ∙ after_ends e [] NothingYet (s + 1 + 1 + 1) rest h a))
 
 head_reads : (h : Head) → IsHead h → Headed (spell_head h)
@@ -64,11 +65,11 @@ head_reads (Marked before e gaps) g =
     record {
       wait = l.wait;
       pending = l.pending;
-      run = λ rest. ap (λ zs. lines_walk at_start 0 zs) (append_assoc xs (ms ++ gs) rest)
+      run = λ rest. ap (λ zs. line_walk at_start 0 zs) (append_assoc xs (ms ++ gs) rest)
           ∙ (k.run ((ms ++ gs) ++ rest)
-          ∙ (ap (λ zs. lines_walk (front [] (AtLine p k.wait)) p zs) (append_assoc ms gs rest)
+          ∙ (ap (λ zs. line_walk (front [] (AtLine p k.wait)) p zs) (append_assoc ms gs rest)
           ∙ (marked_run e k.wait p (gs ++ rest) k.fresh g.1 g.2
-          ∙ (l.run rest ∙ ap (λ n. lines_walk (front [] (AtLine n l.wait)) n rest) (sym (past_append xs (ms ++ gs) 0 ∙ past_append ms gs p))))));
+          ∙ (l.run rest ∙ ap (λ n. line_walk (front [] (AtLine n l.wait)) n rest) (sym (past_append xs (ms ++ gs) 0 ∙ past_append ms gs p))))));
     }
 
 -- ---- the file
@@ -96,16 +97,16 @@ top_closes : (o : Option Block) → all_closed (open_body o) (left_body o) ≡ b
 top_closes None = refl
 top_closes (Some b) = closes_block b []
 
-file_reads : (h : Head) (o : Option Block) → IsHead h → IsBody o → Stood (lines_walk at_start 0) 0 (spell_head h ++ spell_body o) (open_body o) (left_body o) 0
+file_reads : (h : Head) (o : Option Block) → IsHead h → IsBody o → Stood (line_walk at_start 0) 0 (spell_head h ++ spell_body o) (open_body o) (left_body o) 0
 file_reads h None g i =
     let k : Headed (spell_head h) = head_reads h g in
-    let P : List ℕ → Type 0 = λ zs. Stood (lines_walk at_start 0) 0 zs [] null 0 in
+    let P : List ℕ → Type 0 = λ zs. Stood (line_walk at_start 0) 0 zs [] null 0 in
     subst P (sym (append-nil (spell_head h))) (record { stand = OfLine k.wait; is = pending_so_far k.wait null k.pending; passes = tt; run = k.run })
 file_reads h (Some b) g i =
     let k : Headed (spell_head h) = head_reads h g in
     let p : ℕ = past 0 (spell_head h) in
-    stood_behind (lines_walk at_start 0) (front [] (AtLine p k.wait)) 0 (spell_head h) (spell_block b) (open_block b []) (left_block b) 0 (λ rest. k.run (spell_block b ++ rest))
-    (block_reads b [] 0 p k.wait 0 0 i refl refl (top_fits b) k.pending (omega arith) (λ n q. refl) (λ n q. absurd (omega arith)) (inl refl))
+    stood_behind (line_walk at_start 0) (front [] (AtLine p k.wait)) 0 (spell_head h) (spell_block b) (open_block b []) (left_block b) 0 (λ rest. k.run (spell_block b ++ rest))
+    (block_reads b [] 0 p k.wait 0 0 i refl refl (top_fits b) k.pending (omega arith) (λ n q. refl) (λ n q. absurd (omega arith)) (omega arith))
 
 -- the front at the end, and the value of the file
 pub record Walked (xs : List ℕ) (v : Value) : Type 0 where
@@ -113,21 +114,21 @@ pub record Walked (xs : List ℕ) (v : Value) : Type 0 where
   pub stand : Stand
   pub at : ℕ
   pub place : at ≡ past 0 xs
-  pub run : lines_walk at_start 0 xs ≡ Ok (front frames (stands stand at))
+  pub run : line_walk at_start 0 xs ≡ Ok (front frames (stands stand at))
   pub flow : is_flow frames ≡ false
   pub all : all_closed frames (value_so_far (stand_wait stand)) ≡ v
 
 pub written_is_walked : (f : File) → IsFile f → Walked (spell_whole f) (file_value f)
-unfolding lines_walk
+unfolding line_walk
 written_is_walked f h =
     let o : Option Block = f.block in
-    let r : Stood (lines_walk at_start 0) 0 (spell_whole f) (open_body o) (left_body o) 0 = file_reads f.head o h.0 h.1 in
+    let r : Stood (line_walk at_start 0) 0 (spell_whole f) (open_body o) (left_body o) 0 = file_reads f.head o h.0 h.1 in
     record {
       frames = open_body o;
       stand = r.stand;
       at = past 0 (spell_whole f);
       place = refl;
-      run = ap (λ zs. lines_walk at_start 0 zs) (sym (append-nil (spell_whole f))) ∙ r.run [];
+      run = ap (λ zs. line_walk at_start 0 zs) (sym (append-nil (spell_whole f))) ∙ r.run [];
       flow = top_flow o h.1;
       all = ap (λ (v : Value). all_closed (open_body o) v) r.is ∙ top_closes o;
     }

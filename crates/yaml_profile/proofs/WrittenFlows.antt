@@ -13,7 +13,8 @@ use Rattle.yaml_profile.specs.Pieces.{in_at_value, in_plain, in_after_quoted, in
 use Rattle.yaml_profile.specs.Layout.{in_line, line_content, flow_line}
 use Rattle.yaml_profile.specs.Reading.{taken}
 use Rattle.yaml_profile.specs.Written.{spaces, Ending, Bare, Noted, spell_ending, spell_gaps, IsEnding, IsApart, AreGaps, with_chars, spell_furthers, line_ends, Plain, Double, Single, spell_plain, spell_scalar, spell_singles, Pad, Inline, Over, spell_pad, IsPad, place_behind, ends_before, Flow, Text, Empty, Listed, Trailed, Elements, One, Another, spell_flow, spell_elements, flow_value, element_values, IsFlow, AreElements, spell_inners, double_text, is_line_end, single_text, is_feed}
-use Rattle.yaml_profile.proofs.WrittenTexts.{lines_walk, past, past_append, goes, spaces_line, spaces_quoted, spaced_by, still, comment_goes, spaces_plain, spaces_text, After, after_char, after_spaces, after_ending}
+use Rattle.yaml_profile.proofs.WrittenTexts.{goes, spaces_line, spaces_quoted, spaced_by, still, comment_goes, spaces_plain, spaces_text, After, after_char, after_spaces, after_ending}
+use Rattle.yaml_profile.proofs.ReadSteps.{line_walk, past, past_append, with_returns}
 use Rattle.yaml_profile.proofs.WrittenQuotes.{role_then, value_then}
 use Rattle.yaml_profile.proofs.WrittenLines.{Reads, begin_run, begun, double_goes, singled_goes, Begun, begun_behind, plain_ends, quoted_ends, value_spaces}
 use Rattle.yaml_profile.proofs.WrittenKeys.{not_full, Starts, Started, sign_starts, plain_starts, started_by, value_taken, is_pending}
@@ -22,8 +23,8 @@ use Rattle.yaml_profile.proofs.WrittenParagraphs.{Plained, plain_goes, lines_aft
 
 -- behind these characters stands an item of a flow list
 pub record Ends (from : List ℕ → Result Front Broken) (at : ℕ) (xs : List ℕ) (vs : List Value) (fs : List Frame) (v : Value) : Type 0 where
-  pub comma : (rest : List ℕ) → from (xs ++ 44 ∷ rest) ≡ lines_walk (front (InFlow (vs ++ v ∷ []) ∷ fs) (AtValue 0 false false)) (past at xs + 1) rest
-  pub bracket : (rest : List ℕ) → from (xs ++ 93 ∷ rest) ≡ lines_walk (front fs (AfterValue (Whole (a_list (items_from (vs ++ v ∷ [])))) false)) (past at xs + 1) rest
+  pub comma : (rest : List ℕ) → from (xs ++ 44 ∷ rest) ≡ line_walk (front (InFlow (vs ++ v ∷ []) ∷ fs) (AtValue 0 false false)) (past at xs + 1) rest
+  pub bracket : (rest : List ℕ) → from (xs ++ 93 ∷ rest) ≡ line_walk (front fs (AfterValue (Whole (a_list (items_from (vs ++ v ∷ [])))) false)) (past at xs + 1) rest
 
 -- this front takes the comma and the bracket behind the item
 pub record Ready (i : Innermost) (at : ℕ) (vs : List Value) (fs : List Frame) (v : Value) : Type 0 where
@@ -31,10 +32,10 @@ pub record Ready (i : Innermost) (at : ℕ) (vs : List Value) (fs : List Frame) 
   pub bracket : (rest : List ℕ) → taken (InFlow vs ∷ fs) i at 93 rest ≡ Ok (front fs (AfterValue (Whole (a_list (items_from (vs ++ v ∷ [])))) false))
 
 ends_ready : (f : Front) (i : Innermost) (at : ℕ) (xs : List ℕ) (vs : List Value) (fs : List Frame) (v : Value)
-    → ((rest : List ℕ) → lines_walk f at (xs ++ rest) ≡ lines_walk (front (InFlow vs ∷ fs) i) (past at xs) rest) → Ready i (past at xs) vs fs v → Ends (lines_walk f at) at xs vs fs v
+    → ((rest : List ℕ) → line_walk f at (xs ++ rest) ≡ line_walk (front (InFlow vs ∷ fs) i) (past at xs) rest) → Ready i (past at xs) vs fs v → Ends (line_walk f at) at xs vs fs v
 ends_ready f i at xs vs fs v run r = record {
-  comma = λ rest. run (44 ∷ rest) ∙ goes (InFlow vs ∷ fs) i (front (InFlow (vs ++ v ∷ []) ∷ fs) (AtValue 0 false false)) (past at xs) 44 rest refl (r.comma rest);
-  bracket = λ rest. run (93 ∷ rest) ∙ goes (InFlow vs ∷ fs) i (front fs (AfterValue (Whole (a_list (items_from (vs ++ v ∷ [])))) false)) (past at xs) 93 rest refl (r.bracket rest);
+  comma = λ rest. run (44 ∷ rest) ∙ goes (InFlow vs ∷ fs) i (front (InFlow (vs ++ v ∷ []) ∷ fs) (AtValue 0 false false)) (past at xs) 44 rest (r.comma (with_returns rest));
+  bracket = λ rest. run (93 ∷ rest) ∙ goes (InFlow vs ∷ fs) i (front fs (AfterValue (Whole (a_list (items_from (vs ++ v ∷ [])))) false)) (past at xs) 93 rest (r.bracket (with_returns rest));
 }
 
 plain_ready : (vs : List Value) (fs : List Frame) (t : Folding) (r : Role) (begun : ℕ) (sp : Bool) (at : ℕ) → Ready (InPlain t r begun sp) at vs fs (scalar_of t.text)
@@ -64,11 +65,11 @@ unfolding taken in_after_value
 space_after fs w sp at rest = refl
 
 pub spaces_after : (n : ℕ) (fs : List Frame) (w : Waiting) (sp : Bool) (at : ℕ) (rest : List ℕ)
-    → lines_walk (front fs (AfterValue w sp)) at (spaces n ++ rest) ≡ lines_walk (front fs (AfterValue w (spaced_by sp n))) (past at (spaces n)) rest
+    → line_walk (front fs (AfterValue w sp)) at (spaces n ++ rest) ≡ line_walk (front fs (AfterValue w (spaced_by sp n))) (past at (spaces n)) rest
 spaces_after zero fs w sp at rest = refl
 spaces_after (suc n) fs w sp at rest =
-    goes fs (AfterValue w sp) (front fs (AfterValue w true)) at 32 (spaces n ++ rest) refl (space_after fs w sp at (spaces n ++ rest))
-    ∙ (spaces_after n fs w true (at + 1) rest ∙ ap (λ (v : Bool). lines_walk (front fs (AfterValue w v)) (past (at + 1) (spaces n)) rest) (still n))
+    goes fs (AfterValue w sp) (front fs (AfterValue w true)) at 32 (spaces n ++ rest) (space_after fs w sp at (with_returns (spaces n ++ rest)))
+    ∙ (spaces_after n fs w true (at + 1) rest ∙ ap (λ (v : Bool). line_walk (front fs (AfterValue w v)) (past (at + 1) (spaces n)) rest) (still n))
 
 after_feed : (fs : List Frame) (w : Waiting) (sp : Bool) (at : ℕ) (rest : List ℕ) → taken fs (AfterValue w sp) at 10 rest ≡ Ok (front fs (AtLine (at + 1) w))
 unfolding taken in_after_value
@@ -79,21 +80,21 @@ unfolding taken in_after_value
 after_hash fs w at rest = refl
 
 pub after_ends : (e : Ending) (fs : List Frame) (w : Waiting) (at : ℕ) (rest : List ℕ) → IsEnding e → IsApart e
-    → lines_walk (front fs (AfterValue w false)) at (spell_ending e ++ rest) ≡ lines_walk (front fs (AtLine (past at (spell_ending e)) w)) (past at (spell_ending e)) rest
+    → line_walk (front fs (AfterValue w false)) at (spell_ending e ++ rest) ≡ line_walk (front fs (AtLine (past at (spell_ending e)) w)) (past at (spell_ending e)) rest
 after_ends (Bare n) fs w at rest h a =
-    ap (λ zs. lines_walk (front fs (AfterValue w false)) at zs) (append_assoc (spaces n) (10 ∷ []) rest)
+    ap (λ zs. line_walk (front fs (AfterValue w false)) at zs) (append_assoc (spaces n) (10 ∷ []) rest)
     ∙ (spaces_after n fs w false at (10 ∷ rest)
-    ∙ (goes fs (AfterValue w (spaced_by false n)) (front fs (AtLine (past at (spaces n) + 1) w)) (past at (spaces n)) 10 rest refl (after_feed fs w (spaced_by false n) (past at (spaces n)) rest)
-    ∙ ap (λ p. lines_walk (front fs (AtLine p w)) p rest) (sym (past_append (spaces n) (10 ∷ []) at))))
+    ∙ (goes fs (AfterValue w (spaced_by false n)) (front fs (AtLine (past at (spaces n) + 1) w)) (past at (spaces n)) 10 rest (after_feed fs w (spaced_by false n) (past at (spaces n)) (with_returns rest))
+    ∙ ap (λ p. line_walk (front fs (AtLine p w)) p rest) (sym (past_append (spaces n) (10 ∷ []) at))))
 after_ends (Noted zero text) fs w at rest h a = absurd (omega arith)
 after_ends (Noted (suc n) text) fs w at rest h a =
     let p : ℕ = past at (spaces (suc n)) in
     let t : List ℕ = text ++ 10 ∷ [] in
-    ap (λ zs. lines_walk (front fs (AfterValue w false)) at zs) (append_assoc (spaces (suc n)) (35 ∷ t) rest)
+    ap (λ zs. line_walk (front fs (AfterValue w false)) at zs) (append_assoc (spaces (suc n)) (35 ∷ t) rest)
     ∙ (spaces_after (suc n) fs w false at (35 ∷ (t ++ rest))
-    ∙ (goes fs (AfterValue w true) (front fs (InComment w)) p 35 (t ++ rest) refl (after_hash fs w p (t ++ rest))
+    ∙ (goes fs (AfterValue w true) (front fs (InComment w)) p 35 (t ++ rest) (after_hash fs w p (with_returns (t ++ rest)))
     ∙ (comment_goes text fs w (p + len_utf8 35) rest h
-    ∙ ap (λ q. lines_walk (front fs (AtLine q w)) q rest) (sym (past_append (spaces (suc n)) (35 ∷ t) at)))))
+    ∙ ap (λ q. line_walk (front fs (AtLine q w)) q rest) (sym (past_append (spaces (suc n)) (35 ∷ t) at)))))
 
 value_line : (e : Ending) (fs : List Frame) (v : Value) (at : ℕ) → IsEnding e → IsApart e → Reads (front fs (AfterValue (Whole v) false)) at (spell_ending e) fs v
 value_line e fs v at h a = record { wait = Whole v; is = refl; run = λ rest. after_ends e fs (Whole v) at rest h a }
@@ -113,19 +114,19 @@ pad_after (Over e gaps n) rest h a =
 
 -- an item, before what ends it
 ends_behind : (from : List ℕ → Result Front Broken) (g : Front) (at : ℕ) (xs : List ℕ) (q : Pad) (vs : List Value) (fs : List Frame) (v : Value) → IsPad q
-    → ((rest : List ℕ) → After (ends_before q) rest → from (xs ++ rest) ≡ lines_walk g (past at xs) rest) → Ends (lines_walk g (past at xs)) (past at xs) (spell_pad q) vs fs v → Ends from at (xs ++ spell_pad q) vs fs v
+    → ((rest : List ℕ) → After (ends_before q) rest → from (xs ++ rest) ≡ line_walk g (past at xs) rest) → Ends (line_walk g (past at xs)) (past at xs) (spell_pad q) vs fs v → Ends from at (xs ++ spell_pad q) vs fs v
 ends_behind from g at xs q vs fs v h step e =
     let ys : List ℕ = spell_pad q in
     record {
       comma = λ rest. ap from (append_assoc xs ys (44 ∷ rest)) ∙ (step (ys ++ 44 ∷ rest) (pad_after q (44 ∷ rest) h (comma_after rest)) ∙ (e.comma rest
-          ∙ ap (λ m. lines_walk (front (InFlow (vs ++ v ∷ []) ∷ fs) (AtValue 0 false false)) (m + 1) rest) (sym (past_append xs ys at))));
+          ∙ ap (λ m. line_walk (front (InFlow (vs ++ v ∷ []) ∷ fs) (AtValue 0 false false)) (m + 1) rest) (sym (past_append xs ys at))));
       bracket = λ rest. ap from (append_assoc xs ys (93 ∷ rest)) ∙ (step (ys ++ 93 ∷ rest) (pad_after q (93 ∷ rest) h (bracket_after rest)) ∙ (e.bracket rest
-          ∙ ap (λ m. lines_walk (front fs (AfterValue (Whole (a_list (items_from (vs ++ v ∷ [])))) false)) (m + 1) rest) (sym (past_append xs ys at))));
+          ∙ ap (λ m. line_walk (front fs (AfterValue (Whole (a_list (items_from (vs ++ v ∷ [])))) false)) (m + 1) rest) (sym (past_append xs ys at))));
     }
 
 -- an item ended by the end of its line
 over_ends : (f : Front) (e : Ending) (gaps : List Ending) (n at : ℕ) (vs : List Value) (fs : List Frame) (v : Value) → (r : Reads f at (spell_ending e) (InFlow vs ∷ fs) v) → is_pending r.wait ≡ false → AreGaps gaps
-    → Ends (lines_walk f at) at (spell_pad (Over e gaps n)) vs fs v
+    → Ends (line_walk f at) at (spell_pad (Over e gaps n)) vs fs v
 over_ends f e gaps n at vs fs v r done g =
     let gs : List Frame = InFlow vs ∷ fs in
     let xs : List ℕ = spell_ending e in
@@ -137,11 +138,11 @@ over_ends f e gaps n at vs fs v r done g =
     let i : Innermost = AtLine q k.wait in
     let P : Value → Type 0 = λ u. Ready i (past at (xs ++ (ys ++ zs))) vs fs u in
     ends_ready f i at (xs ++ (ys ++ zs)) vs fs v
-    (λ rest. ap (λ us. lines_walk f at us) (append_assoc xs (ys ++ zs) rest)
+    (λ rest. ap (λ us. line_walk f at us) (append_assoc xs (ys ++ zs) rest)
     ∙ (r.run ((ys ++ zs) ++ rest)
-    ∙ (ap (λ us. lines_walk (front gs (AtLine p r.wait)) p us) (append_assoc ys zs rest)
+    ∙ (ap (λ us. line_walk (front gs (AtLine p r.wait)) p us) (append_assoc ys zs rest)
     ∙ (k.run (zs ++ rest)
-    ∙ (spaces_line n gs q k.wait q rest ∙ ap (λ m. lines_walk (front gs i) m rest) (sym (past_append xs (ys ++ zs) at ∙ past_append ys zs p)))))))
+    ∙ (spaces_line n gs q k.wait q rest ∙ ap (λ m. line_walk (front gs i) m rest) (sym (past_append xs (ys ++ zs) at ∙ past_append ys zs p)))))))
     (subst P (k.value ∙ r.is) (line_ready vs fs k.wait q (past at (xs ++ (ys ++ zs))) (k.pending ∙ done)))
 
 plain_done : (e : Ending) (fs : List Frame) (t : Folding) (r : Role) (begun : ℕ) (sp : Bool) (at : ℕ) (k : is_key_only r ≡ false) (h : IsEnding e) (a : IsApart e) → is_pending (plain_ends e fs t r begun sp at k h a).wait ≡ false
@@ -156,7 +157,7 @@ quoted_done (Bare n) fs x r begun at k h a = refl
 quoted_done (Noted zero text) fs x r begun at k h a = absurd (omega arith)
 quoted_done (Noted (suc n) text) fs x r begun at k h a = refl
 
-plain_pad : (q : Pad) (vs : List Value) (fs : List Frame) (t : Folding) (r : Role) (begun : ℕ) (sp : Bool) (at : ℕ) → is_key_only r ≡ false → IsPad q → Ends (lines_walk (front (InFlow vs ∷ fs) (InPlain t r begun sp)) at) at (spell_pad q) vs fs (scalar_of t.text)
+plain_pad : (q : Pad) (vs : List Value) (fs : List Frame) (t : Folding) (r : Role) (begun : ℕ) (sp : Bool) (at : ℕ) → is_key_only r ≡ false → IsPad q → Ends (line_walk (front (InFlow vs ∷ fs) (InPlain t r begun sp)) at) at (spell_pad q) vs fs (scalar_of t.text)
 plain_pad (Inline n) vs fs t r begun sp at k h =
     let gs : List Frame = InFlow vs ∷ fs in
     let u : Folding = with_chars t (spaces n) in
@@ -168,7 +169,7 @@ plain_pad (Over e gaps n) vs fs t r begun sp at k h =
     let gs : List Frame = InFlow vs ∷ fs in
     over_ends (front gs (InPlain t r begun sp)) e gaps n at vs fs (scalar_of t.text) (plain_ends e gs t r begun sp at k h.0 h.1) (plain_done e gs t r begun sp at k h.0 h.1) h.2
 
-quoted_pad : (q : Pad) (vs : List Value) (fs : List Frame) (x : List ℕ) (r : Role) (begun at : ℕ) → is_key_only r ≡ false → IsPad q → Ends (lines_walk (front (InFlow vs ∷ fs) (AfterQuoted x r begun false)) at) at (spell_pad q) vs fs (a_text x)
+quoted_pad : (q : Pad) (vs : List Value) (fs : List Frame) (x : List ℕ) (r : Role) (begun at : ℕ) → is_key_only r ≡ false → IsPad q → Ends (line_walk (front (InFlow vs ∷ fs) (AfterQuoted x r begun false)) at) at (spell_pad q) vs fs (a_text x)
 quoted_pad (Inline n) vs fs x r begun at k h =
     let gs : List Frame = InFlow vs ∷ fs in
     let i : Innermost = AfterQuoted x r begun (spaced_by false n) in
@@ -177,7 +178,7 @@ quoted_pad (Over e gaps n) vs fs x r begun at k h =
     let gs : List Frame = InFlow vs ∷ fs in
     over_ends (front gs (AfterQuoted x r begun false)) e gaps n at vs fs (a_text x) (quoted_ends e gs x r begun at k h.0 h.1) (quoted_done e gs x r begun at k h.0 h.1) h.2
 
-value_pad : (q : Pad) (vs : List Value) (fs : List Frame) (v : Value) (at : ℕ) → IsPad q → Ends (lines_walk (front (InFlow vs ∷ fs) (AfterValue (Whole v) false)) at) at (spell_pad q) vs fs v
+value_pad : (q : Pad) (vs : List Value) (fs : List Frame) (v : Value) (at : ℕ) → IsPad q → Ends (line_walk (front (InFlow vs ∷ fs) (AfterValue (Whole v) false)) at) at (spell_pad q) vs fs v
 unfolding value_line
 value_pad (Inline n) vs fs v at h =
     let gs : List Frame = InFlow vs ∷ fs in
@@ -199,7 +200,7 @@ record Padded (p : Pad) (vs : List Value) (fs : List Frame) (at : ℕ) : Type 0 
   inner : Innermost
   begins : (c : ℕ) (rest : List ℕ) → Starts (place_behind p) true c rest → taken (InFlow vs ∷ fs) inner (past at (spell_pad p)) c rest ≡ begin_value (InFlow vs ∷ fs) ValueOnly (past at (spell_pad p)) c rest
   closes : (rest : List ℕ) → taken (InFlow vs ∷ fs) inner (past at (spell_pad p)) 93 rest ≡ Ok (front fs (AfterValue (Whole (a_list (items_from vs))) false))
-  run : (rest : List ℕ) → lines_walk (front (InFlow vs ∷ fs) (AtValue 0 false false)) at (spell_pad p ++ rest) ≡ lines_walk (front (InFlow vs ∷ fs) inner) (past at (spell_pad p)) rest
+  run : (rest : List ℕ) → line_walk (front (InFlow vs ∷ fs) (AtValue 0 false false)) at (spell_pad p ++ rest) ≡ line_walk (front (InFlow vs ∷ fs) inner) (past at (spell_pad p)) rest
 
 value_closes : (vs : List Value) (fs : List Frame) (s : ℕ) (sp : Bool) (at : ℕ) (rest : List ℕ) → taken (InFlow vs ∷ fs) (AtValue s false sp) at 93 rest ≡ Ok (front fs (AfterValue (Whole (a_list (items_from vs))) false))
 unfolding taken in_at_value end_flow
@@ -241,13 +242,13 @@ padded (Over e gaps n) vs fs at h =
       inner = AtLine p d.wait;
       begins = λ c rest g. line_begins vs fs p d.wait (past at all) n c rest d.pending g;
       closes = λ rest. line_closes vs fs p d.wait (past at all) rest d.pending;
-      run = λ rest. ap (λ zs. lines_walk (front gs (AtValue 0 false false)) at zs) (ap (λ zs. zs ++ rest) (sym (append_assoc xs ys (spaces n))) ∙ append_assoc (xs ++ ys) (spaces n) rest)
-          ∙ (d.run (spaces n ++ rest) ∙ (spaces_line n gs p d.wait p rest ∙ ap (λ m. lines_walk (front gs (AtLine p d.wait)) m rest) same));
+      run = λ rest. ap (λ zs. line_walk (front gs (AtValue 0 false false)) at zs) (ap (λ zs. zs ++ rest) (sym (append_assoc xs ys (spaces n))) ∙ append_assoc (xs ++ ys) (spaces n) rest)
+          ∙ (d.run (spaces n ++ rest) ∙ (spaces_line n gs p d.wait p rest ∙ ap (λ m. line_walk (front gs (AtLine p d.wait)) m rest) same));
     }
 
 -- a flow list is read
 pub record Closes (fs : List Frame) (role : Role) (at : ℕ) (xs : List ℕ) (v : Value) : Type 0 where
-  pub run : (rest : List ℕ) → begin_run fs role at (xs ++ rest) ≡ lines_walk (front fs (AfterValue (Whole v) false)) (past at xs) rest
+  pub run : (rest : List ℕ) → begin_run fs role at (xs ++ rest) ≡ line_walk (front fs (AfterValue (Whole v) false)) (past at xs) rest
 
 abbrev before_last : Elements → List Value
 before_last (One p x q) = []
@@ -275,26 +276,26 @@ empty_closes p fs role level at k l e h =
     let d : Padded p [] fs (at + 1) = padded p [] fs (at + 1) h in
     let g : Front = front fs (AfterValue (Whole (a_list (items_from []))) false) in
     record {
-      run = λ rest. begun fs role (front gs (AtValue 0 false false)) at 91 ((xs ++ 93 ∷ []) ++ rest) (bracket_opens fs role at level ((xs ++ 93 ∷ []) ++ rest) k e l)
-          ∙ (ap (λ zs. lines_walk (front gs (AtValue 0 false false)) (at + 1) zs) (append_assoc xs (93 ∷ []) rest)
+      run = λ rest. begun fs role (front gs (AtValue 0 false false)) at 91 ((xs ++ 93 ∷ []) ++ rest) (bracket_opens fs role at level (with_returns ((xs ++ 93 ∷ []) ++ rest)) k e l)
+          ∙ (ap (λ zs. line_walk (front gs (AtValue 0 false false)) (at + 1) zs) (append_assoc xs (93 ∷ []) rest)
           ∙ (d.run (93 ∷ rest)
-          ∙ (goes gs d.inner g (past (at + 1) xs) 93 rest refl (d.closes rest) ∙ ap (λ q. lines_walk g q rest) (sym (past_append xs (93 ∷ []) (at + 1))))));
+          ∙ (goes gs d.inner g (past (at + 1) xs) 93 rest (d.closes (with_returns rest)) ∙ ap (λ q. line_walk g q rest) (sym (past_append xs (93 ∷ []) (at + 1))))));
     }
 
 -- the elements behind a bracket at this place
 abbrev AllEnd : Elements → List Frame → ℕ → Type 0
-AllEnd es fs at = Ends (lines_walk (front (InFlow [] ∷ fs) (AtValue 0 false false)) (at + 1)) (at + 1) (spell_elements es) (before_last es) fs (last_element es)
+AllEnd es fs at = Ends (line_walk (front (InFlow [] ∷ fs) (AtValue 0 false false)) (at + 1)) (at + 1) (spell_elements es) (before_last es) fs (last_element es)
 
 listed_from : (es : Elements) (fs : List Frame) (role : Role) (level at : ℕ) → is_key_only role ≡ false → level < 32 → length fs ≡ level → AllEnd es fs at
     → Closes fs role at (spell_flow (Listed es)) (flow_value (Listed es))
 listed_from es fs role level at k h e r =
     let gs : List Frame = InFlow [] ∷ fs in
     record {
-      run = λ rest. begun fs role (front gs (AtValue 0 false false)) at 91 ((spell_elements es ++ 93 ∷ []) ++ rest) (bracket_opens fs role at level ((spell_elements es ++ 93 ∷ []) ++ rest) k e h)
-          ∙ (ap (λ zs. lines_walk (front gs (AtValue 0 false false)) (at + 1) zs) (append_assoc (spell_elements es) (93 ∷ []) rest)
+      run = λ rest. begun fs role (front gs (AtValue 0 false false)) at 91 ((spell_elements es ++ 93 ∷ []) ++ rest) (bracket_opens fs role at level (with_returns ((spell_elements es ++ 93 ∷ []) ++ rest)) k e h)
+          ∙ (ap (λ zs. line_walk (front gs (AtValue 0 false false)) (at + 1) zs) (append_assoc (spell_elements es) (93 ∷ []) rest)
           ∙ (r.bracket rest
-          ∙ (ap (λ (us : List Value). lines_walk (front fs (AfterValue (Whole (a_list (items_from us))) false)) (past (at + 1) (spell_elements es) + 1) rest) (elements_parts es)
-          ∙ ap (λ p. lines_walk (front fs (AfterValue (Whole (flow_value (Listed es))) false)) p rest) (sym (past_append (spell_elements es) (93 ∷ []) (at + 1))))));
+          ∙ (ap (λ (us : List Value). line_walk (front fs (AfterValue (Whole (a_list (items_from us))) false)) (past (at + 1) (spell_elements es) + 1) rest) (elements_parts es)
+          ∙ ap (λ p. line_walk (front fs (AfterValue (Whole (flow_value (Listed es))) false)) p rest) (sym (past_append (spell_elements es) (93 ∷ []) (at + 1))))));
     }
 
 trailed_from : (es : Elements) (p : Pad) (fs : List Frame) (role : Role) (level at : ℕ) → is_key_only role ≡ false → level < 32 → length fs ≡ level → AllEnd es fs at → IsPad p
@@ -308,14 +309,14 @@ trailed_from es p fs role level at k l e r h =
     let d : Padded p (element_values es) fs m = padded p (element_values es) fs m h in
     let g : Front = front fs (AfterValue (Whole (flow_value (Trailed es p))) false) in
     record {
-      run = λ rest. begun fs role (front gs (AtValue 0 false false)) at 91 ((spell_elements es ++ 44 ∷ ys) ++ rest) (bracket_opens fs role at level ((spell_elements es ++ 44 ∷ ys) ++ rest) k e l)
-          ∙ (ap (λ zs. lines_walk (front gs (AtValue 0 false false)) (at + 1) zs) (append_assoc (spell_elements es) (44 ∷ ys) rest)
+      run = λ rest. begun fs role (front gs (AtValue 0 false false)) at 91 ((spell_elements es ++ 44 ∷ ys) ++ rest) (bracket_opens fs role at level (with_returns ((spell_elements es ++ 44 ∷ ys) ++ rest)) k e l)
+          ∙ (ap (λ zs. line_walk (front gs (AtValue 0 false false)) (at + 1) zs) (append_assoc (spell_elements es) (44 ∷ ys) rest)
           ∙ (r.comma (ys ++ rest)
-          ∙ (ap (λ (us : List Value). lines_walk (front (InFlow us ∷ fs) (AtValue 0 false false)) m (ys ++ rest)) (elements_parts es)
-          ∙ (ap (λ zs. lines_walk (front hs (AtValue 0 false false)) m zs) (append_assoc xs (93 ∷ []) rest)
+          ∙ (ap (λ (us : List Value). line_walk (front (InFlow us ∷ fs) (AtValue 0 false false)) m (ys ++ rest)) (elements_parts es)
+          ∙ (ap (λ zs. line_walk (front hs (AtValue 0 false false)) m zs) (append_assoc xs (93 ∷ []) rest)
           ∙ (d.run (93 ∷ rest)
-          ∙ (goes hs d.inner g (past m xs) 93 rest refl (d.closes rest)
-          ∙ ap (λ q. lines_walk g q rest) (sym (past_append (spell_elements es) (44 ∷ ys) (at + 1) ∙ past_append xs (93 ∷ []) m))))))));
+          ∙ (goes hs d.inner g (past m xs) 93 rest (d.closes (with_returns rest))
+          ∙ ap (λ q. line_walk g q rest) (sym (past_append (spell_elements es) (44 ∷ ys) (at + 1) ∙ past_append xs (93 ∷ []) m))))))));
     }
 
 one_more : (fs : List Frame) (level : ℕ) → length fs ≡ level → length (InFlow [] ∷ fs) ≡ suc level
@@ -323,14 +324,14 @@ one_more fs level e = omega arith
 
 -- the first character of an item
 pub signed : (c : ℕ) (cs : List ℕ) (place : Option ℕ) (flow ended : Bool) → (c == 32) ≡ false → (c == 10) ≡ false → (c == 9) ≡ false → (c == 35) ≡ false → (c == 13) ≡ false → (c == 45) ≡ false → (c == 46) ≡ false → (c == 93) ≡ false → Started place flow ended (c ∷ cs)
-signed c cs place flow ended a b d e f g h i = record { first = c; tail = cs; parts = refl; starts = λ rest _. sign_starts place flow c (cs ++ rest) a b d e f g h i }
+signed c cs place flow ended a b d e f g h i = record { first = c; tail = cs; parts = refl; starts = λ rest _. sign_starts place flow c (with_returns (cs ++ rest)) a b d e f g h i }
 
 pub flow_started : (x : Flow) (place : Option ℕ) (flow ended : Bool) (least level : ℕ) → IsFlow place flow ended least level x → Started place flow ended (spell_flow x)
 flow_started (Text (Plain c cs ls)) place flow ended least level h = record {
   first = c;
   tail = cs ++ spell_furthers ls;
   parts = refl;
-  starts = λ rest a. subst (λ zs. Starts place flow c zs) (sym (append_assoc cs (spell_furthers ls) rest)) (plain_starts place flow (line_ends ended ls) c cs (spell_furthers ls ++ rest) h.0 (lines_after ended ls rest a));
+  starts = λ rest a. subst (λ zs. Starts place flow c (with_returns zs)) (sym (append_assoc cs (spell_furthers ls) rest)) (plain_starts place flow (line_ends ended ls) c cs (spell_furthers ls ++ rest) h.0 (lines_after ended ls rest a));
 }
 flow_started (Text (Double xs)) place flow ended least level h = signed 34 (spell_inners xs ++ 34 ∷ []) place flow ended refl refl refl refl refl refl refl refl
 flow_started (Text (Single cs)) place flow ended least level h = signed 39 (spell_singles cs ++ 39 ∷ []) place flow ended refl refl refl refl refl refl refl refl
@@ -341,7 +342,7 @@ flow_started (Trailed es p) place flow ended least level h = signed 91 (spell_el
 -- behind a bracket or comma
 item_behind : (x : Flow) (p q : Pad) (vs : List Value) (fs : List Frame) (least level at : ℕ) → IsPad p → IsPad q → IsFlow (place_behind p) true (ends_before q) least level x
     → Ends (begin_run (InFlow vs ∷ fs) ValueOnly (past at (spell_pad p))) (past at (spell_pad p)) (spell_flow x ++ spell_pad q) vs fs (flow_value x)
-    → Ends (lines_walk (front (InFlow vs ∷ fs) (AtValue 0 false false)) at) at (spell_pad p ++ (spell_flow x ++ spell_pad q)) vs fs (flow_value x)
+    → Ends (line_walk (front (InFlow vs ∷ fs) (AtValue 0 false false)) at) at (spell_pad p ++ (spell_flow x ++ spell_pad q)) vs fs (flow_value x)
 item_behind x p q vs fs least level at h g i e =
     let gs : List Frame = InFlow vs ∷ fs in
     let v : Value = flow_value x in
@@ -349,15 +350,15 @@ item_behind x p q vs fs least level at h g i e =
     let m : ℕ = past at xs in
     let ys : List ℕ = spell_flow x ++ spell_pad q in
     let d : Padded p vs fs at = padded p vs fs at h in
-    let run : (rest : List ℕ) → After false rest → lines_walk (front gs (AtValue 0 false false)) at ((xs ++ ys) ++ rest) ≡ begin_run gs ValueOnly m (ys ++ rest)
-    = λ rest a. ap (λ us. lines_walk (front gs (AtValue 0 false false)) at us) (append_assoc xs ys rest)
+    let run : (rest : List ℕ) → After false rest → line_walk (front gs (AtValue 0 false false)) at ((xs ++ ys) ++ rest) ≡ begin_run gs ValueOnly m (ys ++ rest)
+    = λ rest a. ap (λ us. line_walk (front gs (AtValue 0 false false)) at us) (append_assoc xs ys rest)
     ∙ (d.run (ys ++ rest)
-    ∙ (ap (λ us. lines_walk (front gs d.inner) m us) (append_assoc (spell_flow x) (spell_pad q) rest)
+    ∙ (ap (λ us. line_walk (front gs d.inner) m us) (append_assoc (spell_flow x) (spell_pad q) rest)
     ∙ (started_by (place_behind p) true (ends_before q) (spell_flow x) (flow_started x (place_behind p) true (ends_before q) least level i) gs gs d.inner ValueOnly m (spell_pad q ++ rest) (pad_after q rest g a) d.begins
     ∙ ap (λ us. begin_run gs ValueOnly m us) (sym (append_assoc (spell_flow x) (spell_pad q) rest))))) in
     record {
-      comma = λ rest. run (44 ∷ rest) (comma_after rest) ∙ (e.comma rest ∙ ap (λ k. lines_walk (front (InFlow (vs ++ v ∷ []) ∷ fs) (AtValue 0 false false)) (k + 1) rest) (sym (past_append xs ys at)));
-      bracket = λ rest. run (93 ∷ rest) (bracket_after rest) ∙ (e.bracket rest ∙ ap (λ k. lines_walk (front fs (AfterValue (Whole (a_list (items_from (vs ++ v ∷ [])))) false)) (k + 1) rest) (sym (past_append xs ys at)));
+      comma = λ rest. run (44 ∷ rest) (comma_after rest) ∙ (e.comma rest ∙ ap (λ k. line_walk (front (InFlow (vs ++ v ∷ []) ∷ fs) (AtValue 0 false false)) (k + 1) rest) (sym (past_append xs ys at)));
+      bracket = λ rest. run (93 ∷ rest) (bracket_after rest) ∙ (e.bracket rest ∙ ap (λ k. line_walk (front fs (AfterValue (Whole (a_list (items_from (vs ++ v ∷ [])))) false)) (k + 1) rest) (sym (past_append xs ys at)));
     }
 
 -- where further lines of an item may begin
@@ -386,7 +387,7 @@ mutual
       let xs : List ℕ = spell_scalar (Single cs) in
       let x : List ℕ = single_text cs in
       let r : Role = role_then is_feed ValueOnly cs in
-      ends_behind (begin_run gs ValueOnly at) (front gs (AfterQuoted x r at false)) at xs q vs fs (a_text x) g (λ rest a. singled_goes cs gs ValueOnly at rest h (λ _. refl) a.quote)
+      ends_behind (begin_run gs ValueOnly at) (front gs (AfterQuoted x r at false)) at xs q vs fs (a_text x) g (λ rest a. singled_goes cs gs ValueOnly at rest (λ _. refl) a.quote)
       (quoted_pad q vs fs x r at (past at xs) (value_then is_feed cs ValueOnly refl) g)
   item_ends (Empty p) q place vs fs least level at g h e d = list_ends (Empty p) q vs fs at g (empty_closes p (InFlow vs ∷ fs) ValueOnly level at refl h.0 e h.1)
   item_ends (Listed es) q place vs fs least level at g h e d =
@@ -395,10 +396,10 @@ mutual
       list_ends (Trailed es p) q vs fs at g (trailed_from es p (InFlow vs ∷ fs) ValueOnly level at refl h.0 e (elements_end es (InFlow vs ∷ fs) least (suc level) (at + 1) h.1 (one_more (InFlow vs ∷ fs) level e) d) h.2)
 
   elements_end : (es : Elements) (fs : List Frame) (least level at : ℕ) → AreElements least level es → length (InFlow [] ∷ fs) ≡ level → Deep least fs
-      → Ends (lines_walk (front (InFlow [] ∷ fs) (AtValue 0 false false)) at) at (spell_elements es) (before_last es) fs (last_element es)
+      → Ends (line_walk (front (InFlow [] ∷ fs) (AtValue 0 false false)) at) at (spell_elements es) (before_last es) fs (last_element es)
   elements_end (One p x q) fs least level at h e d = item_behind x p q [] fs least level at h.0 h.2 h.1 (item_ends x q (place_behind p) [] fs least level (past at (spell_pad p)) h.2 h.1 e d)
   elements_end (Another es p x q) fs least level at h e d =
-      let r : Ends (lines_walk (front (InFlow [] ∷ fs) (AtValue 0 false false)) at) at (spell_elements es) (before_last es) fs (last_element es) = elements_end es fs least level at h.0 e d in
+      let r : Ends (line_walk (front (InFlow [] ∷ fs) (AtValue 0 false false)) at) at (spell_elements es) (before_last es) fs (last_element es) = elements_end es fs least level at h.0 e d in
       let f : Front = front (InFlow [] ∷ fs) (AtValue 0 false false) in
       let us : List Value = element_values es in
       let v : Value = flow_value x in
@@ -407,14 +408,14 @@ mutual
       let m : ℕ = past at xs + 1 in
       let ys : List ℕ = spell_pad p ++ (spell_flow x ++ spell_pad q) in
       let same : past at (xs ++ 44 ∷ ys) ≡ past m ys = past_append xs (44 ∷ ys) at in
-      let i : Ends (lines_walk (front gs (AtValue 0 false false)) m) m ys us fs v
+      let i : Ends (line_walk (front gs (AtValue 0 false false)) m) m ys us fs v
       = item_behind x p q us fs least level m h.1 h.3 h.2 (item_ends x q (place_behind p) us fs least level (past m (spell_pad p)) h.3 h.2 e d) in
-      let step : (rest : List ℕ) → lines_walk f at ((xs ++ 44 ∷ ys) ++ rest) ≡ lines_walk (front gs (AtValue 0 false false)) m (ys ++ rest)
-      = λ rest. ap (λ zs. lines_walk f at zs) (append_assoc xs (44 ∷ ys) rest)
-      ∙ (r.comma (ys ++ rest) ∙ ap (λ (ws : List Value). lines_walk (front (InFlow ws ∷ fs) (AtValue 0 false false)) m (ys ++ rest)) (elements_parts es)) in
+      let step : (rest : List ℕ) → line_walk f at ((xs ++ 44 ∷ ys) ++ rest) ≡ line_walk (front gs (AtValue 0 false false)) m (ys ++ rest)
+      = λ rest. ap (λ zs. line_walk f at zs) (append_assoc xs (44 ∷ ys) rest)
+      ∙ (r.comma (ys ++ rest) ∙ ap (λ (ws : List Value). line_walk (front (InFlow ws ∷ fs) (AtValue 0 false false)) m (ys ++ rest)) (elements_parts es)) in
       record {
-        comma = λ rest. step (44 ∷ rest) ∙ (i.comma rest ∙ ap (λ k. lines_walk (front (InFlow (us ++ v ∷ []) ∷ fs) (AtValue 0 false false)) (k + 1) rest) (sym same));
-        bracket = λ rest. step (93 ∷ rest) ∙ (i.bracket rest ∙ ap (λ k. lines_walk (front fs (AfterValue (Whole (a_list (items_from (us ++ v ∷ [])))) false)) (k + 1) rest) (sym same));
+        comma = λ rest. step (44 ∷ rest) ∙ (i.comma rest ∙ ap (λ k. line_walk (front (InFlow (us ++ v ∷ []) ∷ fs) (AtValue 0 false false)) (k + 1) rest) (sym same));
+        bracket = λ rest. step (93 ∷ rest) ∙ (i.bracket rest ∙ ap (λ k. line_walk (front fs (AfterValue (Whole (a_list (items_from (us ++ v ∷ [])))) false)) (k + 1) rest) (sym same));
       }
 
 -- ---- a scalar or a flow list, and the end of its line
@@ -441,7 +442,7 @@ flow_reads (Text (Single cs)) e place fs role least level at k h f n d g a =
     let x : List ℕ = single_text cs in
     let ys : List ℕ = spell_scalar (Single cs) in
     let r : Role = role_then is_feed role cs in
-    begun_behind fs role (front fs (AfterQuoted x r at false)) at ys (spell_ending e) (a_text x) (λ rest. singled_goes cs fs role at (spell_ending e ++ rest) h (λ _. k) (after_ending e rest a).quote)
+    begun_behind fs role (front fs (AfterQuoted x r at false)) at ys (spell_ending e) (a_text x) (λ rest. singled_goes cs fs role at (spell_ending e ++ rest) (λ _. k) (after_ending e rest a).quote)
     (quoted_ends e fs x r at (past at ys) (value_then is_feed cs role k) g a)
 flow_reads (Empty p) e place fs role least level at k h f n d g a = closed_line (Empty p) e fs role at (empty_closes p fs role level at k h.0 n h.1) g a
 flow_reads (Listed es) e place fs role least level at k h f n d g a =

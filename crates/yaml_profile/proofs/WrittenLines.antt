@@ -17,24 +17,25 @@ use Rattle.yaml_profile.specs.Fronts.{Frame, Waiting, Fresh, Nothing, Going, Who
 use Rattle.yaml_profile.specs.Pieces.{in_at_value, in_plain, begin_value, in_after_quoted, in_after_value, is_key_only, is_value_sign}
 use Rattle.yaml_profile.specs.Layout.{in_line, one_line_more, ended}
 use Rattle.yaml_profile.specs.Reading.{taken}
-use Rattle.yaml_profile.specs.Written.{spaces, Ending, Bare, Noted, spell_ending, IsEnding, IsApart, spell_gaps, AreGaps, word_ends, stays_plain, begins_plain, with_char, with_chars, Inner, is_inner_quoted, Double, Single, spell_scalar, spell_inners, double_text, is_line_end, single_text, is_feed, no_return, spell_singles}
-use Rattle.yaml_profile.proofs.WrittenTexts.{lines_walk, past, past_append, goes, spaces_line, some_spaces, spaces_quoted, spaced_by, comment_goes, not_true, next_word, chars_go, spaced_after, spaces_plain, spaces_text}
+use Rattle.yaml_profile.specs.Written.{spaces, Ending, Bare, Noted, spell_ending, IsEnding, IsApart, spell_gaps, AreGaps, word_ends, stays_plain, begins_plain, with_char, with_chars, Inner, is_inner_quoted, Double, Single, spell_scalar, spell_inners, double_text, is_line_end, single_text, is_feed, spell_singles}
+use Rattle.yaml_profile.proofs.WrittenTexts.{goes, spaces_line, some_spaces, spaces_quoted, spaced_by, comment_goes, next_word, chars_go, spaced_after, spaces_plain, spaces_text}
+use Rattle.yaml_profile.proofs.ReadSteps.{line_walk, not_true, past, past_append, with_returns}
 use Rattle.yaml_profile.proofs.WrittenQuotes.{MayEnd, role_then, quoted_goes, single_goes}
 
 -- these characters lead to the start of a line, with these collections open and this value read last
 pub record Reads (f : Front) (at : ℕ) (xs : List ℕ) (fs : List Frame) (v : Value) : Type 0 where
   pub wait : Waiting
   pub is : value_so_far wait ≡ v
-  pub run : (rest : List ℕ) → lines_walk f at (xs ++ rest) ≡ lines_walk (front fs (AtLine (past at xs) wait)) (past at xs) rest
+  pub run : (rest : List ℕ) → line_walk f at (xs ++ rest) ≡ line_walk (front fs (AtLine (past at xs) wait)) (past at xs) rest
 
 -- one step leads to another front
 pub reads_behind : (f g : Front) (at : ℕ) (xs ys : List ℕ) (fs : List Frame) (v : Value)
-    → ((rest : List ℕ) → lines_walk f at (xs ++ rest) ≡ lines_walk g (past at xs) rest) → Reads g (past at xs) ys fs v → Reads f at (xs ++ ys) fs v
+    → ((rest : List ℕ) → line_walk f at (xs ++ rest) ≡ line_walk g (past at xs) rest) → Reads g (past at xs) ys fs v → Reads f at (xs ++ ys) fs v
 reads_behind f g at xs ys fs v step r = record {
   wait = r.wait;
   is = r.is;
-  run = λ rest. ap (λ zs. lines_walk f at zs) (append_assoc xs ys rest) ∙ (step (ys ++ rest) ∙ (r.run rest
-      ∙ ap (λ m. lines_walk (front fs (AtLine m r.wait)) m rest) (sym (past_append xs ys at))));
+  run = λ rest. ap (λ zs. line_walk f at zs) (append_assoc xs ys rest) ∙ (step (ys ++ rest) ∙ (r.run rest
+      ∙ ap (λ m. line_walk (front fs (AtLine m r.wait)) m rest) (sym (past_append xs ys at))));
 }
 
 -- what is read may go on
@@ -82,10 +83,10 @@ unfoldable pub gap_reads : (e : Ending) (fs : List Frame) (s : ℕ) (w : Waiting
 gap_reads (Bare n) fs s w at h = record {
   wait = one_line_more w;
   is = more_is w;
-  run = λ rest. ap (λ zs. lines_walk (front fs (AtLine s w)) at zs) (append_assoc (spaces n) (10 ∷ []) rest)
+  run = λ rest. ap (λ zs. line_walk (front fs (AtLine s w)) at zs) (append_assoc (spaces n) (10 ∷ []) rest)
       ∙ (spaces_line n fs s w at (10 ∷ rest)
-      ∙ (goes fs (AtLine s w) (front fs (AtLine (past at (spaces n) + 1) (one_line_more w))) (past at (spaces n)) 10 rest refl (line_feed fs s w (past at (spaces n)) rest)
-      ∙ ap (λ m. lines_walk (front fs (AtLine m (one_line_more w))) m rest) (sym (past_append (spaces n) (10 ∷ []) at))));
+      ∙ (goes fs (AtLine s w) (front fs (AtLine (past at (spaces n) + 1) (one_line_more w))) (past at (spaces n)) 10 rest (line_feed fs s w (past at (spaces n)) (with_returns rest))
+      ∙ ap (λ m. line_walk (front fs (AtLine m (one_line_more w))) m rest) (sym (past_append (spaces n) (10 ∷ []) at))));
 }
 gap_reads (Noted n text) fs s w at h = record {
   wait = ended w;
@@ -93,15 +94,15 @@ gap_reads (Noted n text) fs s w at h = record {
   run = λ rest.
       let m : ℕ = past at (spaces n) in
       let k : List ℕ = text ++ 10 ∷ [] in
-      ap (λ zs. lines_walk (front fs (AtLine s w)) at zs) (append_assoc (spaces n) (35 ∷ k) rest)
+      ap (λ zs. line_walk (front fs (AtLine s w)) at zs) (append_assoc (spaces n) (35 ∷ k) rest)
       ∙ (spaces_line n fs s w at (35 ∷ (k ++ rest))
-      ∙ (goes fs (AtLine s w) (front fs (InComment (ended w))) m 35 (k ++ rest) refl (line_hash fs s w m (k ++ rest))
+      ∙ (goes fs (AtLine s w) (front fs (InComment (ended w))) m 35 (k ++ rest) (line_hash fs s w m (with_returns (k ++ rest)))
       ∙ (comment_goes text fs (ended w) (m + len_utf8 35) rest h
-      ∙ ap (λ p. lines_walk (front fs (AtLine p (ended w))) p rest) (sym (past_append (spaces n) (35 ∷ k) at)))));
+      ∙ ap (λ p. line_walk (front fs (AtLine p (ended w))) p rest) (sym (past_append (spaces n) (35 ∷ k) at)))));
 }
 
 pub gaps_read : (es : List Ending) (fs : List Frame) (s : ℕ) (w : Waiting) (at : ℕ) → s ≡ at → AreGaps es → Reads (front fs (AtLine s w)) at (spell_gaps es) fs (value_so_far w)
-gaps_read [] fs s w at same h = record { wait = w; is = refl; run = λ rest. ap (λ m. lines_walk (front fs (AtLine m w)) at rest) same }
+gaps_read [] fs s w at same h = record { wait = w; is = refl; run = λ rest. ap (λ m. line_walk (front fs (AtLine m w)) at rest) same }
 gaps_read (e ∷ es) fs s w at same h =
     let r : Reads (front fs (AtLine s w)) at (spell_ending e) fs (value_so_far w) = gap_reads e fs s w at h.0 in
     let m : ℕ = past at (spell_ending e) in
@@ -127,7 +128,7 @@ value_hash fs s m at rest = refl
 
 -- spaces before the end of a line
 pub value_spaces : (n : ℕ) (fs : List Frame) (s : ℕ) (m sp : Bool) (at : ℕ) (rest : List ℕ)
-    → lines_walk (front fs (AtValue s m sp)) at (spaces n ++ rest) ≡ lines_walk (front fs (AtValue s m (spaced_by sp n))) (past at (spaces n)) rest
+    → line_walk (front fs (AtValue s m sp)) at (spaces n ++ rest) ≡ line_walk (front fs (AtValue s m (spaced_by sp n))) (past at (spaces n)) rest
 value_spaces zero fs s m sp at rest = refl
 value_spaces (suc n) fs s m sp at rest = some_spaces n fs s m sp at rest
 
@@ -136,10 +137,10 @@ unfoldable pub nothing_reads : (e : Ending) (fs : List Frame) (s : ℕ) (m sp : 
 nothing_reads (Bare n) fs s m sp at h a = record {
   wait = Nothing;
   is = refl;
-  run = λ rest. ap (λ zs. lines_walk (front fs (AtValue s m sp)) at zs) (append_assoc (spaces n) (10 ∷ []) rest)
+  run = λ rest. ap (λ zs. line_walk (front fs (AtValue s m sp)) at zs) (append_assoc (spaces n) (10 ∷ []) rest)
       ∙ (value_spaces n fs s m sp at (10 ∷ rest)
-      ∙ (goes fs (AtValue s m (spaced_by sp n)) (front fs (AtLine (past at (spaces n) + 1) Nothing)) (past at (spaces n)) 10 rest refl (value_feed fs s m (spaced_by sp n) (past at (spaces n)) rest)
-      ∙ ap (λ p. lines_walk (front fs (AtLine p Nothing)) p rest) (sym (past_append (spaces n) (10 ∷ []) at))));
+      ∙ (goes fs (AtValue s m (spaced_by sp n)) (front fs (AtLine (past at (spaces n) + 1) Nothing)) (past at (spaces n)) 10 rest (value_feed fs s m (spaced_by sp n) (past at (spaces n)) (with_returns rest))
+      ∙ ap (λ p. line_walk (front fs (AtLine p Nothing)) p rest) (sym (past_append (spaces n) (10 ∷ []) at))));
 }
 nothing_reads (Noted zero text) fs s m sp at h a = absurd (omega arith)
 nothing_reads (Noted (suc n) text) fs s m sp at h a = record {
@@ -148,11 +149,11 @@ nothing_reads (Noted (suc n) text) fs s m sp at h a = record {
   run = λ rest.
       let p : ℕ = past at (spaces (suc n)) in
       let k : List ℕ = text ++ 10 ∷ [] in
-      ap (λ zs. lines_walk (front fs (AtValue s m sp)) at zs) (append_assoc (spaces (suc n)) (35 ∷ k) rest)
+      ap (λ zs. line_walk (front fs (AtValue s m sp)) at zs) (append_assoc (spaces (suc n)) (35 ∷ k) rest)
       ∙ (some_spaces n fs s m sp at (35 ∷ (k ++ rest))
-      ∙ (goes fs (AtValue s m true) (front fs (InComment Nothing)) p 35 (k ++ rest) refl (value_hash fs s m p (k ++ rest))
+      ∙ (goes fs (AtValue s m true) (front fs (InComment Nothing)) p 35 (k ++ rest) (value_hash fs s m p (with_returns (k ++ rest)))
       ∙ (comment_goes text fs Nothing (p + len_utf8 35) rest h
-      ∙ ap (λ q. lines_walk (front fs (AtLine q Nothing)) q rest) (sym (past_append (spaces (suc n)) (35 ∷ k) at)))));
+      ∙ ap (λ q. line_walk (front fs (AtLine q Nothing)) q rest) (sym (past_append (spaces (suc n)) (35 ∷ k) at)))));
 }
 
 -- ---- scalars
@@ -175,11 +176,11 @@ plain_ends (Bare n) fs t r begun sp at k h a =
     record {
       wait = Going (end_line u);
       is = ap scalar_of (end_line_text u ∙ spaces_text n t);
-      run = λ rest. ap (λ zs. lines_walk (front fs (InPlain t r begun sp)) at zs) (append_assoc (spaces n) (10 ∷ []) rest)
+      run = λ rest. ap (λ zs. line_walk (front fs (InPlain t r begun sp)) at zs) (append_assoc (spaces n) (10 ∷ []) rest)
           ∙ (spaces_plain n fs t r begun sp at (10 ∷ rest)
-          ∙ (goes fs (InPlain u r begun (spaced_by sp n)) (front fs (AtLine (past at (spaces n) + 1) (Going (end_line u)))) (past at (spaces n)) 10 rest refl
-          (plain_feed fs u r begun (spaced_by sp n) (past at (spaces n)) rest k)
-          ∙ ap (λ p. lines_walk (front fs (AtLine p (Going (end_line u)))) p rest) (sym (past_append (spaces n) (10 ∷ []) at))));
+          ∙ (goes fs (InPlain u r begun (spaced_by sp n)) (front fs (AtLine (past at (spaces n) + 1) (Going (end_line u)))) (past at (spaces n)) 10 rest
+          (plain_feed fs u r begun (spaced_by sp n) (past at (spaces n)) (with_returns rest) k)
+          ∙ ap (λ p. line_walk (front fs (AtLine p (Going (end_line u)))) p rest) (sym (past_append (spaces n) (10 ∷ []) at))));
     }
 plain_ends (Noted zero text) fs t r begun sp at k h a = absurd (omega arith)
 plain_ends (Noted (suc n) text) fs t r begun sp at k h a =
@@ -191,11 +192,11 @@ plain_ends (Noted (suc n) text) fs t r begun sp at k h a =
       run = λ rest.
           let p : ℕ = past at (spaces (suc n)) in
           let x : List ℕ = text ++ 10 ∷ [] in
-          ap (λ zs. lines_walk (front fs (InPlain t r begun sp)) at zs) (append_assoc (spaces (suc n)) (35 ∷ x) rest)
+          ap (λ zs. line_walk (front fs (InPlain t r begun sp)) at zs) (append_assoc (spaces (suc n)) (35 ∷ x) rest)
           ∙ (spaces_plain (suc n) fs t r begun sp at (35 ∷ (x ++ rest))
-          ∙ (goes fs (InPlain u r begun true) (front fs (InComment w)) p 35 (x ++ rest) refl (plain_hash fs u r begun p (x ++ rest) k)
+          ∙ (goes fs (InPlain u r begun true) (front fs (InComment w)) p 35 (x ++ rest) (plain_hash fs u r begun p (with_returns (x ++ rest)) k)
           ∙ (comment_goes text fs w (p + len_utf8 35) rest h
-          ∙ ap (λ q. lines_walk (front fs (AtLine q w)) q rest) (sym (past_append (spaces (suc n)) (35 ∷ x) at)))));
+          ∙ ap (λ q. line_walk (front fs (AtLine q w)) q rest) (sym (past_append (spaces (suc n)) (35 ∷ x) at)))));
     }
 
 pub quoted_feed : (fs : List Frame) (x : List ℕ) (r : Role) (begun : ℕ) (sp : Bool) (at : ℕ) (rest : List ℕ) → is_key_only r ≡ false
@@ -214,11 +215,11 @@ unfoldable pub quoted_ends : (e : Ending) (fs : List Frame) (x : List ℕ) (r : 
 quoted_ends (Bare n) fs x r begun at k h a = record {
   wait = Whole (a_text x);
   is = refl;
-  run = λ rest. ap (λ zs. lines_walk (front fs (AfterQuoted x r begun false)) at zs) (append_assoc (spaces n) (10 ∷ []) rest)
+  run = λ rest. ap (λ zs. line_walk (front fs (AfterQuoted x r begun false)) at zs) (append_assoc (spaces n) (10 ∷ []) rest)
       ∙ (spaces_quoted n fs x r begun false at (10 ∷ rest)
-      ∙ (goes fs (AfterQuoted x r begun (spaced_by false n)) (front fs (AtLine (past at (spaces n) + 1) (Whole (a_text x)))) (past at (spaces n)) 10 rest refl
-      (quoted_feed fs x r begun (spaced_by false n) (past at (spaces n)) rest k)
-      ∙ ap (λ p. lines_walk (front fs (AtLine p (Whole (a_text x)))) p rest) (sym (past_append (spaces n) (10 ∷ []) at))));
+      ∙ (goes fs (AfterQuoted x r begun (spaced_by false n)) (front fs (AtLine (past at (spaces n) + 1) (Whole (a_text x)))) (past at (spaces n)) 10 rest
+      (quoted_feed fs x r begun (spaced_by false n) (past at (spaces n)) (with_returns rest) k)
+      ∙ ap (λ p. line_walk (front fs (AtLine p (Whole (a_text x)))) p rest) (sym (past_append (spaces n) (10 ∷ []) at))));
 }
 quoted_ends (Noted zero text) fs x r begun at k h a = absurd (omega arith)
 quoted_ends (Noted (suc n) text) fs x r begun at k h a = record {
@@ -227,19 +228,18 @@ quoted_ends (Noted (suc n) text) fs x r begun at k h a = record {
   run = λ rest.
       let p : ℕ = past at (spaces (suc n)) in
       let t : List ℕ = text ++ 10 ∷ [] in
-      ap (λ zs. lines_walk (front fs (AfterQuoted x r begun false)) at zs) (append_assoc (spaces (suc n)) (35 ∷ t) rest)
+      ap (λ zs. line_walk (front fs (AfterQuoted x r begun false)) at zs) (append_assoc (spaces (suc n)) (35 ∷ t) rest)
       ∙ (spaces_quoted (suc n) fs x r begun false at (35 ∷ (t ++ rest))
-      ∙ (goes fs (AfterQuoted x r begun true) (front fs (InComment (Whole (a_text x)))) p 35 (t ++ rest) refl
-      (quoted_hash fs x r begun p (t ++ rest) k)
+      ∙ (goes fs (AfterQuoted x r begun true) (front fs (InComment (Whole (a_text x)))) p 35 (t ++ rest)
+      (quoted_hash fs x r begun p (with_returns (t ++ rest)) k)
       ∙ (comment_goes text fs (Whole (a_text x)) (p + len_utf8 35) rest h
-      ∙ ap (λ q. lines_walk (front fs (AtLine q (Whole (a_text x)))) q rest) (sym (past_append (spaces (suc n)) (35 ∷ t) at)))));
+      ∙ ap (λ q. line_walk (front fs (AtLine q (Whole (a_text x)))) q rest) (sym (past_append (spaces (suc n)) (35 ∷ t) at)))));
 }
 
 -- ---- where texts begin
 
 pub record BeginFacts (ended : Bool) (c : ℕ) (cs : List ℕ) : Type 0 where
   pub feed : (c == 10) ≡ false
-  pub return : (c == 13) ≡ false
   pub space : (c == 32) ≡ false
   pub double : (c == 34) ≡ false
   pub single : (c == 39) ≡ false
@@ -255,15 +255,15 @@ begin_facts ended c cs h =
     let e = and_parts _ _ d.0 in
     let f = and_parts _ _ e.0 in
     let g = and_parts _ _ f.0 in
-    let i = and_parts _ _ g.0 in
-    record { feed = not_true _ i.0; return = not_true _ i.1; space = not_true _ g.1; double = not_true _ f.1; single = not_true _ e.1; value = not_true _ d.1; nothing = not_true _ b.1; word = not_true _ a.1 }
+    record { feed = not_true _ g.0; space = not_true _ g.1; double = not_true _ f.1; single = not_true _ e.1; value = not_true _ d.1; nothing = not_true _ b.1; word = not_true _ a.1 }
 
-pub plain_begins : (fs : List Frame) (r : Role) (at : ℕ) (flow ended : Bool) (c : ℕ) (cs rest : List ℕ) → BeginFacts ended c cs → stays_plain flow false ended cs ≡ true → ends_word rest ≡ ended
-    → begin_value fs r at c (cs ++ rest) ≡ Ok (front fs (InPlain (with_char nothing_yet c) r at false))
+pub plain_begins : (fs : List Frame) (r : Role) (at : ℕ) (ended : Bool) (c : ℕ) (cs rest : List ℕ) → BeginFacts ended c cs → ends_word (with_returns rest) ≡ ended
+    → begin_value fs r at c (with_returns (cs ++ rest)) ≡ Ok (front fs (InPlain (with_char nothing_yet c) r at false))
 unfolding begin_value
-plain_begins fs r at flow ended c cs rest f l w =
-    let e : ends_word (cs ++ rest) ≡ word_ends ended cs = next_word cs rest flow false ended l w in
-    rw (f.double, f.single, e, f.word, f.value, f.nothing, f.feed, f.space) (elim (cases_Bool (c == 9)) [ inl h ↦ rw h refl | inr h ↦ rw h refl ])
+plain_begins fs r at ended c cs rest f w =
+    let e : ends_word (with_returns (cs ++ rest)) ≡ word_ends ended cs = next_word cs rest ended w in
+    let k : (is_word_sign c && ends_word (with_returns (cs ++ rest))) ≡ false = ap (λ (b : Bool). is_word_sign c && b) e ∙ f.word in
+    rw (f.double, f.single, k, f.value, f.nothing, f.feed, f.space) (elim (cases_Bool (c == 9)) [ inl h ↦ rw h refl | inr h ↦ rw h refl ])
 
 pub quote_begins : (fs : List Frame) (r : Role) (at : ℕ) (rest : List ℕ) → begin_value fs r at 34 rest ≡ Ok (front fs (InDouble nothing_yet r at))
 unfolding begin_value
@@ -284,42 +284,42 @@ no_key false column = refl
 -- a value begins with the first of these characters, and they are read
 abbrev pub begin_run : List Frame → Role → ℕ → List ℕ → Result Front Broken
 begin_run fs role at [] = no_text at
-begin_run fs role at (c ∷ cs) = begin_value fs role at c cs >>= λ g. lines_walk g (at + len_utf8 c) cs
+begin_run fs role at (c ∷ cs) = begin_value fs role at c (with_returns cs) >>= λ g. line_walk g (at + len_utf8 c) cs
 
-pub begun : (fs : List Frame) (role : Role) (g : Front) (at c : ℕ) (cs : List ℕ) → begin_value fs role at c cs ≡ Ok g → begin_run fs role at (c ∷ cs) ≡ lines_walk g (at + len_utf8 c) cs
-begun fs role g at c cs e = ap (λ (r : Result Front Broken). r >>= λ h. lines_walk h (at + len_utf8 c) cs) e
+pub begun : (fs : List Frame) (role : Role) (g : Front) (at c : ℕ) (cs : List ℕ) → begin_value fs role at c (with_returns cs) ≡ Ok g → begin_run fs role at (c ∷ cs) ≡ line_walk g (at + len_utf8 c) cs
+begun fs role g at c cs e = ap (λ (r : Result Front Broken). r >>= λ h. line_walk h (at + len_utf8 c) cs) e
 
 -- texts from their first character to behind their last
-pub line_goes : (c : ℕ) (cs : List ℕ) (fs : List Frame) (role : Role) (flow ended : Bool) (at : ℕ) (rest : List ℕ) → begins_plain ended c cs ≡ true → stays_plain flow false ended cs ≡ true → is_flow fs ≡ flow → ends_word rest ≡ ended
-    → begin_run fs role at ((c ∷ cs) ++ rest) ≡ lines_walk (front fs (InPlain (with_chars nothing_yet (c ∷ cs)) role at (spaced_after false cs))) (past at (c ∷ cs)) rest
+pub line_goes : (c : ℕ) (cs : List ℕ) (fs : List Frame) (role : Role) (flow ended : Bool) (at : ℕ) (rest : List ℕ) → begins_plain ended c cs ≡ true → stays_plain flow false ended cs ≡ true → is_flow fs ≡ flow → ends_word (with_returns rest) ≡ ended
+    → begin_run fs role at ((c ∷ cs) ++ rest) ≡ line_walk (front fs (InPlain (with_chars nothing_yet (c ∷ cs)) role at (spaced_after false cs))) (past at (c ∷ cs)) rest
 line_goes c cs fs role flow ended at rest b l f w =
-    begun fs role (front fs (InPlain (with_char nothing_yet c) role at false)) at c (cs ++ rest) (plain_begins fs role at flow ended c cs rest (begin_facts ended c cs b) l w)
+    begun fs role (front fs (InPlain (with_char nothing_yet c) role at false)) at c (cs ++ rest) (plain_begins fs role at ended c cs rest (begin_facts ended c cs b) w)
     ∙ chars_go cs fs (with_char nothing_yet c) role at flow false ended (at + len_utf8 c) rest l f w
 
 pub double_goes : (xs : List Inner) (fs : List Frame) (role : Role) (at : ℕ) (rest : List ℕ) → list_all is_inner_quoted xs ≡ true → MayEnd is_line_end role xs
-    → begin_run fs role at (spell_scalar (Double xs) ++ rest) ≡ lines_walk (front fs (AfterQuoted (double_text xs) (role_then is_line_end role xs) at false)) (past at (spell_scalar (Double xs))) rest
+    → begin_run fs role at (spell_scalar (Double xs) ++ rest) ≡ line_walk (front fs (AfterQuoted (double_text xs) (role_then is_line_end role xs) at false)) (past at (spell_scalar (Double xs))) rest
 double_goes xs fs role at rest l m =
     let ys : List ℕ = spell_inners xs ++ 34 ∷ [] in
-    begun fs role (front fs (InDouble nothing_yet role at)) at 34 (ys ++ rest) (quote_begins fs role at (ys ++ rest)) ∙ quoted_goes xs fs role at (at + len_utf8 34) rest l m
+    begun fs role (front fs (InDouble nothing_yet role at)) at 34 (ys ++ rest) (quote_begins fs role at (with_returns (ys ++ rest))) ∙ quoted_goes xs fs role at (at + len_utf8 34) rest l m
 
-pub singled_goes : (cs : List ℕ) (fs : List Frame) (role : Role) (at : ℕ) (rest : List ℕ) → list_all no_return cs ≡ true → MayEnd is_feed role cs → begins_with 39 rest ≡ false
-    → begin_run fs role at (spell_scalar (Single cs) ++ rest) ≡ lines_walk (front fs (AfterQuoted (single_text cs) (role_then is_feed role cs) at false)) (past at (spell_scalar (Single cs))) rest
-singled_goes cs fs role at rest l m q =
+pub singled_goes : (cs : List ℕ) (fs : List Frame) (role : Role) (at : ℕ) (rest : List ℕ) → MayEnd is_feed role cs → begins_with 39 (with_returns rest) ≡ false
+    → begin_run fs role at (spell_scalar (Single cs) ++ rest) ≡ line_walk (front fs (AfterQuoted (single_text cs) (role_then is_feed role cs) at false)) (past at (spell_scalar (Single cs))) rest
+singled_goes cs fs role at rest m q =
     let ys : List ℕ = spell_singles cs ++ 39 ∷ [] in
-    begun fs role (front fs (InSingle nothing_yet role at)) at 39 (ys ++ rest) (single_begins fs role at (ys ++ rest)) ∙ single_goes cs fs role at (at + len_utf8 39) rest l m q
+    begun fs role (front fs (InSingle nothing_yet role at)) at 39 (ys ++ rest) (single_begins fs role at (with_returns (ys ++ rest))) ∙ single_goes cs fs role at (at + len_utf8 39) rest m q
 
 -- a value that begins, up to the start of a line
 pub record Begun (fs : List Frame) (role : Role) (at : ℕ) (xs : List ℕ) (v : Value) : Type 0 where
   pub wait : Waiting
   pub is : value_so_far wait ≡ v
-  pub run : (rest : List ℕ) → begin_run fs role at (xs ++ rest) ≡ lines_walk (front fs (AtLine (past at xs) wait)) (past at xs) rest
+  pub run : (rest : List ℕ) → begin_run fs role at (xs ++ rest) ≡ line_walk (front fs (AtLine (past at xs) wait)) (past at xs) rest
 
 pub begun_behind : (fs : List Frame) (role : Role) (g : Front) (at : ℕ) (xs ys : List ℕ) (v : Value)
-    → ((rest : List ℕ) → begin_run fs role at (xs ++ (ys ++ rest)) ≡ lines_walk g (past at xs) (ys ++ rest)) → Reads g (past at xs) ys fs v → Begun fs role at (xs ++ ys) v
+    → ((rest : List ℕ) → begin_run fs role at (xs ++ (ys ++ rest)) ≡ line_walk g (past at xs) (ys ++ rest)) → Reads g (past at xs) ys fs v → Begun fs role at (xs ++ ys) v
 begun_behind fs role g at xs ys v step r = record {
   wait = r.wait;
   is = r.is;
-  run = λ rest. ap (λ zs. begin_run fs role at zs) (append_assoc xs ys rest) ∙ (step rest ∙ (r.run rest ∙ ap (λ m. lines_walk (front fs (AtLine m r.wait)) m rest) (sym (past_append xs ys at))));
+  run = λ rest. ap (λ zs. begin_run fs role at zs) (append_assoc xs ys rest) ∙ (step rest ∙ (r.run rest ∙ ap (λ m. line_walk (front fs (AtLine m r.wait)) m rest) (sym (past_append xs ys at))));
 }
 
 -- and lines without content behind it

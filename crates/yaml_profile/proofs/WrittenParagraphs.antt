@@ -10,10 +10,11 @@ use Rattle.yaml_profile.specs.Signs.{begins_mark}
 use Rattle.yaml_profile.specs.Folding.{Folding, nothing_yet, after_blank, end_line, after_line}
 use Rattle.yaml_profile.specs.Fronts.{Frame, Going, AtLine, InPlain, Front, front, is_flow, is_deeper}
 use Rattle.yaml_profile.specs.Pieces.{in_plain, is_key_only}
-use Rattle.yaml_profile.specs.Layout.{block_line, flow_line, in_line, line_content}
+use Rattle.yaml_profile.specs.Layout.{block_line, flow_line, in_line, line_content, ends_blank_line}
 use Rattle.yaml_profile.specs.Reading.{taken}
 use Rattle.yaml_profile.specs.Written.{spaces, is_mark, line_ends, IsPlain, with_solid, with_chars, Further, spell_blanks, spell_further, spell_furthers, spell_plain, IsFurther, AreFurther}
-use Rattle.yaml_profile.proofs.WrittenTexts.{lines_walk, past, past_append, goes, spaces_line, not_true, After, PlainFacts, plain_facts, plain_taken, solid_is, chars_go, spaced_after}
+use Rattle.yaml_profile.proofs.WrittenTexts.{return_ahead, goes, spaces_line, After, PlainFacts, plain_facts, plain_taken, solid_is, chars_go, spaced_after}
+use Rattle.yaml_profile.proofs.ReadSteps.{line_walk, not_true, past, past_append, with_returns}
 use Rattle.yaml_profile.proofs.WrittenLines.{plain_feed, begin_run, line_goes}
 use Rattle.yaml_profile.proofs.WrittenKeys.{content_line, mark_of}
 use Rattle.yaml_profile.proofs.WrittenBlocks.{column_is}
@@ -53,7 +54,7 @@ line_text : (n : ℕ) (t : Folding) → is_inside t.seam ≡ false → with_char
 line_text n t h = chars_append (spaces n) (10 ∷ []) t ∙ ap (λ (u : Folding). end_line u) (spaces_wait n t h)
 
 blanks_go : (ns : List ℕ) (fs : List Frame) (t : Folding) (s : ℕ) (rest : List ℕ) → is_inside t.seam ≡ false
-    → lines_walk (front fs (AtLine s (Going t))) s (spell_blanks ns ++ rest) ≡ lines_walk (front fs (AtLine (past s (spell_blanks ns)) (Going (with_chars t (spell_blanks ns))))) (past s (spell_blanks ns)) rest
+    → line_walk (front fs (AtLine s (Going t))) s (spell_blanks ns ++ rest) ≡ line_walk (front fs (AtLine (past s (spell_blanks ns)) (Going (with_chars t (spell_blanks ns))))) (past s (spell_blanks ns)) rest
 blanks_go [] fs t s rest h = refl
 blanks_go (n ∷ ns) fs t s rest h =
     let ys : List ℕ = spaces n ++ 10 ∷ [] in
@@ -61,13 +62,13 @@ blanks_go (n ∷ ns) fs t s rest h =
     let m : ℕ = past s (spaces n) in
     let u : Folding = end_line t in
     let same : with_chars u bs ≡ with_chars t (ys ++ bs) = sym (chars_append ys bs t ∙ ap (λ (x : Folding). with_chars x bs) (line_text n t h)) in
-    ap (λ zs. lines_walk (front fs (AtLine s (Going t))) s zs) (append_assoc ys bs rest ∙ append_assoc (spaces n) (10 ∷ []) (bs ++ rest))
+    ap (λ zs. line_walk (front fs (AtLine s (Going t))) s zs) (append_assoc ys bs rest ∙ append_assoc (spaces n) (10 ∷ []) (bs ++ rest))
     ∙ (spaces_line n fs s (Going t) s (10 ∷ (bs ++ rest))
-    ∙ (goes fs (AtLine s (Going t)) (front fs (AtLine (m + 1) (Going u))) m 10 (bs ++ rest) refl (blank_feed fs t s m (bs ++ rest))
-    ∙ (ap (λ p. lines_walk (front fs (AtLine p (Going u))) p (bs ++ rest)) (sym (past_append (spaces n) (10 ∷ []) s))
+    ∙ (goes fs (AtLine s (Going t)) (front fs (AtLine (m + 1) (Going u))) m 10 (bs ++ rest) (blank_feed fs t s m (with_returns (bs ++ rest)))
+    ∙ (ap (λ p. line_walk (front fs (AtLine p (Going u))) p (bs ++ rest)) (sym (past_append (spaces n) (10 ∷ []) s))
     ∙ (blanks_go ns fs u (past s ys) rest (end_waits t)
-    ∙ (ap (λ (x : Folding). lines_walk (front fs (AtLine (past (past s ys) bs) (Going x))) (past (past s ys) bs) rest) same
-    ∙ ap (λ p. lines_walk (front fs (AtLine p (Going (with_chars t (ys ++ bs))))) p rest) (sym (past_append ys bs s)))))))
+    ∙ (ap (λ (x : Folding). line_walk (front fs (AtLine (past (past s ys) bs) (Going x))) (past (past s ys) bs) rest) same
+    ∙ ap (λ p. line_walk (front fs (AtLine p (Going (with_chars t (ys ++ bs))))) p rest) (sym (past_append ys bs s)))))))
 
 blanks_wait : (ns : List ℕ) (t : Folding) → is_inside t.seam ≡ false → is_inside (with_chars t (spell_blanks ns)).seam ≡ false
 blanks_wait [] t h = h
@@ -82,7 +83,7 @@ record LineFacts (flow : Bool) (indent c : ℕ) (rest : List ℕ) : Type 0 where
   feed : (c == 10) ≡ false
   tab : (c == 9) ≡ false
   hash : (c == 35) ≡ false
-  return : (c == 13) ≡ false
+  return : ends_blank_line c rest ≡ false
   mark : flow ≡ false → ((indent == 0) && begins_mark c rest) ≡ false
 
 goes_on : (flow : Bool) (fs : List Frame) (t : Folding) (s at k c : ℕ) (rest : List ℕ) → at - s ≡ k → is_flow fs ≡ flow → is_deeper k fs ≡ true → LineFacts flow k c rest
@@ -92,7 +93,7 @@ goes_on true fs t s at k c rest e f d h = rw (h.space, h.feed, h.tab, h.hash, f,
 goes_on false fs t s at k c rest e f d h =
     content_line fs (Going t) s at k c rest e f (record { space = h.space; feed = h.feed; tab = h.tab; hash = h.hash; return = h.return; mark = h.mark refl }) ∙ rw (e, d) refl
 
-line_facts : (flow ended : Bool) (least : ℕ) (l : Further) (rest : List ℕ) → IsFurther flow ended least l → After ended rest → LineFacts flow l.indent l.first (l.text ++ rest)
+line_facts : (flow ended : Bool) (least : ℕ) (l : Further) (rest : List ℕ) → IsFurther flow ended least l → After ended rest → LineFacts flow l.indent l.first (with_returns (l.text ++ rest))
 line_facts flow ended least l rest h a =
     let p : (not (l.first == 32) ≡ true) × (not (l.first == 35) ≡ true) = and_parts _ _ h.1 in
     let f : PlainFacts flow false ended l.first l.text = plain_facts flow false ended l.first l.text h.2 in
@@ -102,8 +103,8 @@ line_facts flow ended least l rest h a =
       feed = f.feed;
       tab = not_true _ m.0;
       hash = not_true _ p.1;
-      return = f.return;
-      mark = λ q. mark_of flow (l.first == 32) ended l.indent l.first l.text rest f.more a m.1 q;
+      return = return_ahead l.first (l.text ++ rest);
+      mark = λ q. mark_of flow ended l.indent l.first l.text rest a m.1 q;
     }
 
 -- where a plain text stands, with any role but that of a key
@@ -112,7 +113,7 @@ record Stays (fs : List Frame) (ended : Bool) (at : ℕ) (xs : List ℕ) (f : Fr
   begun : ℕ
   spaced : Bool
   value : is_key_only role ≡ false
-  run : (rest : List ℕ) → After ended rest → lines_walk f at (xs ++ rest) ≡ lines_walk (front fs (InPlain t role begun spaced)) (past at xs) rest
+  run : (rest : List ℕ) → After ended rest → line_walk f at (xs ++ rest) ≡ line_walk (front fs (InPlain t role begun spaced)) (past at xs) rest
 
 further_goes : (l : Further) (fs : List Frame) (flow ended : Bool) (least : ℕ) (t : Folding) (r : Role) (begun : ℕ) (sp : Bool) (at : ℕ) → is_key_only r ≡ false → is_flow fs ≡ flow → is_deeper l.indent fs ≡ true → IsFurther flow ended least l
     → Stays fs ended at (spell_further l) (front fs (InPlain t r begun sp)) (with_chars t (spell_further l))
@@ -138,16 +139,16 @@ further_goes l fs flow ended least t r begun sp at k f d h =
       spaced = q;
       value = refl;
       run = λ rest a.
-          goes fs (InPlain t r begun sp) (front fs (AtLine s (Going u))) at 10 ((bs ++ (is ++ c ∷ cs)) ++ rest) refl (plain_feed fs t r begun sp at ((bs ++ (is ++ c ∷ cs)) ++ rest) k)
-          ∙ (ap (λ zs. lines_walk (front fs (AtLine s (Going u))) s zs) (append_assoc bs (is ++ c ∷ cs) rest ∙ ap (λ zs. bs ++ zs) (append_assoc is (c ∷ cs) rest))
+          goes fs (InPlain t r begun sp) (front fs (AtLine s (Going u))) at 10 ((bs ++ (is ++ c ∷ cs)) ++ rest) (plain_feed fs t r begun sp at (with_returns ((bs ++ (is ++ c ∷ cs)) ++ rest)) k)
+          ∙ (ap (λ zs. line_walk (front fs (AtLine s (Going u))) s zs) (append_assoc bs (is ++ c ∷ cs) rest ∙ ap (λ zs. bs ++ zs) (append_assoc is (c ∷ cs) rest))
           ∙ (blanks_go l.blanks fs u s (is ++ ((c ∷ cs) ++ rest)) (end_waits t)
           ∙ (spaces_line l.indent fs p (Going v) p ((c ∷ cs) ++ rest)
-          ∙ (goes fs (AtLine p (Going v)) (front fs (InPlain (with_solid v c) ValueOnly m (c == 32))) m c (cs ++ rest) g.return
-          (goes_on flow fs v p m l.indent c (cs ++ rest) (column_is l.indent p) f d (line_facts flow ended least l rest h a) ∙ plain_taken fs v ValueOnly m flow false ended m c cs rest g f a.word)
-          ∙ (ap (λ (x : Folding). lines_walk (front fs (InPlain x ValueOnly m (c == 32))) (m + len_utf8 c) (cs ++ rest)) (sym (solid_is v c g.feed))
+          ∙ (goes fs (AtLine p (Going v)) (front fs (InPlain (with_solid v c) ValueOnly m (c == 32))) m c (cs ++ rest)
+          (goes_on flow fs v p m l.indent c (with_returns (cs ++ rest)) (column_is l.indent p) f d (line_facts flow ended least l rest h a) ∙ plain_taken fs v ValueOnly m flow false ended m c cs rest g f a.word)
+          ∙ (ap (λ (x : Folding). line_walk (front fs (InPlain x ValueOnly m (c == 32))) (m + len_utf8 c) (cs ++ rest)) (sym (solid_is v c g.feed))
           ∙ (chars_go cs fs (with_chars v (c ∷ [])) ValueOnly m flow (c == 32) ended (m + len_utf8 c) rest g.more f a.word
-          ∙ (ap (λ (x : Folding). lines_walk (front fs (InPlain x ValueOnly m q)) (past m (c ∷ cs)) rest) same
-          ∙ ap (λ n. lines_walk (front fs (InPlain (with_chars t (spell_further l)) ValueOnly m q)) n rest) (sym (past_append bs (is ++ c ∷ cs) s ∙ past_append is (c ∷ cs) p)))))))));
+          ∙ (ap (λ (x : Folding). line_walk (front fs (InPlain x ValueOnly m q)) (past m (c ∷ cs)) rest) same
+          ∙ ap (λ n. line_walk (front fs (InPlain (with_chars t (spell_further l)) ValueOnly m q)) n rest) (sym (past_append bs (is ++ c ∷ cs) s ∙ past_append is (c ∷ cs) p)))))))));
     }
 
 pub lines_after : (ended : Bool) (ls : List Further) (rest : List ℕ) → After ended rest → After (line_ends ended ls) (spell_furthers ls ++ rest)
@@ -169,11 +170,11 @@ furthers_go (l ∷ ls) fs flow ended least t r begun sp at k f d h =
       begun = more.begun;
       spaced = more.spaced;
       value = more.value;
-      run = λ rest a. ap (λ zs. lines_walk (front fs (InPlain t r begun sp)) at zs) (append_assoc xs ys rest)
+      run = λ rest a. ap (λ zs. line_walk (front fs (InPlain t r begun sp)) at zs) (append_assoc xs ys rest)
           ∙ (one.run (ys ++ rest) (lines_after ended ls rest a)
           ∙ (more.run rest a
-          ∙ (ap (λ (x : Folding). lines_walk (front fs (InPlain x more.role more.begun more.spaced)) (past (past at xs) ys) rest) (sym (chars_append xs ys t))
-          ∙ ap (λ n. lines_walk (front fs (InPlain (with_chars t (xs ++ ys)) more.role more.begun more.spaced)) n rest) (sym (past_append xs ys at)))));
+          ∙ (ap (λ (x : Folding). line_walk (front fs (InPlain x more.role more.begun more.spaced)) (past (past at xs) ys) rest) (sym (chars_append xs ys t))
+          ∙ ap (λ n. line_walk (front fs (InPlain (with_chars t (xs ++ ys)) more.role more.begun more.spaced)) n rest) (sym (past_append xs ys at)))));
     }
 
 -- the whole text, where it begins
@@ -182,7 +183,7 @@ pub record Plained (fs : List Frame) (ended : Bool) (role : Role) (at : ℕ) (xs
   pub begun : ℕ
   pub spaced : Bool
   pub value : is_key_only role_then ≡ false
-  pub run : (rest : List ℕ) → After ended rest → begin_run fs role at (xs ++ rest) ≡ lines_walk (front fs (InPlain (with_chars nothing_yet xs) role_then begun spaced)) (past at xs) rest
+  pub run : (rest : List ℕ) → After ended rest → begin_run fs role at (xs ++ rest) ≡ line_walk (front fs (InPlain (with_chars nothing_yet xs) role_then begun spaced)) (past at xs) rest
 
 pub plain_goes : (c : ℕ) (cs : List ℕ) (ls : List Further) (place : Option ℕ) (fs : List Frame) (flow ended : Bool) (least : ℕ) (role : Role) (at : ℕ) → is_key_only role ≡ false → is_flow fs ≡ flow → ((n : ℕ) → least ≤ n → is_deeper n fs ≡ true)
     → IsPlain place flow (line_ends ended ls) c cs → AreFurther flow ended least ls → Plained fs ended role at (spell_plain c cs ls)
@@ -200,6 +201,6 @@ plain_goes c cs ls place fs flow ended least role at k f d h g =
       run = λ rest a. ap (λ zs. begin_run fs role at zs) (append_assoc xs ys rest)
           ∙ (line_goes c cs fs role flow (line_ends ended ls) at (ys ++ rest) h.0 h.1 f (lines_after ended ls rest a).word
           ∙ (more.run rest a
-          ∙ (ap (λ (x : Folding). lines_walk (front fs (InPlain x more.role more.begun more.spaced)) (past (past at xs) ys) rest) (sym (chars_append xs ys nothing_yet))
-          ∙ ap (λ n. lines_walk (front fs (InPlain (with_chars nothing_yet (xs ++ ys)) more.role more.begun more.spaced)) n rest) (sym (past_append xs ys at)))));
+          ∙ (ap (λ (x : Folding). line_walk (front fs (InPlain x more.role more.begun more.spaced)) (past (past at xs) ys) rest) (sym (chars_append xs ys nothing_yet))
+          ∙ ap (λ n. line_walk (front fs (InPlain (with_chars nothing_yet (xs ++ ys)) more.role more.begun more.spaced)) n rest) (sym (past_append xs ys at)))));
     }

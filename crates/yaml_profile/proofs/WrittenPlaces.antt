@@ -19,7 +19,7 @@ use Rattle.yaml_profile.specs.Fronts.{Frame, InMap, InList, InFlow, Waiting, Fre
 use Rattle.yaml_profile.specs.Pieces.{open_list, open_flow, first_key, further_key, key_of, plain_key, is_value_only, is_key_only, after_item, end_flow, in_after_value, begin_sign, is_value_sign, begin_value, in_at_value, in_plain, in_single, at_second_quote, in_double, in_escape, in_digits, escaped, is_surrogate, in_after_quoted}
 use Rattle.yaml_profile.specs.Layout.{is_dash, next_item, ends_block, next_entry, settle, is_fresh, begin_on_line, value_on_line, block_line, flow_line, line_content, in_line, in_comment, in_mark, in_header, in_header_comment, is_text_line, is_indented, ends_blank_line, at_text_line, at_blank_end, in_text_line}
 use Rattle.yaml_profile.specs.Reading.{taken, step, takes_return}
-use Rattle.yaml_profile.proofs.WrittenTexts.{is_that}
+use Rattle.yaml_profile.proofs.ReadSteps.{is_that}
 
 -- ---- fronts that differ in places alone
 
@@ -61,7 +61,8 @@ Begun begun at i = Unit {0}
 abbrev pub Same : (begun : Bool) → (at to : ℕ) → (rest : List ℕ) → Result Front Broken → Result Front Broken → Type 0
 Same begun at to rest (Ok g) (Ok h) = (h.frames ≡ g.frames) × Alike at to g.inner h.inner × Fits rest g.inner × Begun begun at g.inner
 Same begun at to rest (Ok g) (Err e) = ⊥
-Same begun at to rest (Err e) y = Unit {0}
+Same begun at to rest (Err e) (Ok h) = ⊥
+Same begun at to rest (Err e) (Err g) = Unit {0}
 
 -- behind one character that ends no line
 abbrev pub Goes : (at to c : ℕ) → (rest : List ℕ) → Result Front Broken → Result Front Broken → Type 0
@@ -528,7 +529,7 @@ fed (InDouble t role b) j at to q rest more fs (d, e) f x =
     fed_by fs (InDouble t role b) j (InDouble t role d) at q rest more e (elim (cases_Bool (is_key_only role)) [ inl k ↦ rw k tt | inr k ↦ rw k (refl, (d, refl), tt, tt) ])
 fed (InEscape t role b) j at to q rest more fs (d, e) f x =
     fed_by fs (InEscape t role b) j (InEscape t role d) at q rest more e (elim (cases_Bool (is_key_only role)) [ inl k ↦ rw k tt | inr k ↦ rw k (refl, (d, refl), tt, tt) ])
-fed (InDigits t role b left number) j at to q rest more fs (d, e) f x = tt
+fed (InDigits t role b left number) j at to q rest more fs (d, e) f x = fed_by fs (InDigits t role b left number) j (InDigits t role d left number) at q rest more e tt
 fed (AfterQuoted y role b sp) j at to q rest more fs (d, e) f x =
     fed_by fs (AfterQuoted y role b sp) j (AfterQuoted y role d sp) at q rest more e (elim (cases_Bool (is_key_only role)) [ inl k ↦ rw k tt | inr k ↦ rw k (refl, (q + 1, 0, refl, started at q), tt, tt) ])
 fed (AfterValue w sp) j at to q rest more fs e f x = fed_by fs (AfterValue w sp) j (AfterValue w sp) at q rest more e (refl, (q + 1, 0, refl, started at q), tt, tt)
@@ -577,9 +578,10 @@ by_return i j k at to rest more fs a e f x t =
     let r : takes_return j ≡ true = ap takes_return e ∙ t in
     subst (λ (y : Result Front Broken). Fed at (to + 1) rest (taken fs i at 10 rest) y) (sym (return_taken fs j to more r)) (fed i j at to (to + 1) rest more fs a f x)
 
-key_quoted : (fs : List Frame) (y : List ℕ) (role : Role) (b : ℕ) (sp : Bool) (at : ℕ) (rest : List ℕ) (q : ℕ) (z : Result Front Broken) → is_key_only role ≡ true → Fed at q rest (taken fs (AfterQuoted y role b sp) at 10 rest) z
-unfolding taken in_after_quoted
-key_quoted fs y role b sp at rest q z k = rw k tt
+key_quoted : (fs : List Frame) (y : List ℕ) (role : Role) (b d : ℕ) (sp : Bool) (at to : ℕ) (rest more : List ℕ) → is_key_only role ≡ true
+    → Fed at (to + 1) rest (taken fs (AfterQuoted y role b sp) at 10 rest) (returned fs (AfterQuoted y role d sp) to more)
+unfolding taken step in_after_quoted
+key_quoted fs y role b d sp at to rest more k = rw k tt
 
 pub return_same : (i j : Innermost) (at to : ℕ) (rest more : List ℕ) (fs : List Frame) → Alike at to i j → Fits (10 ∷ rest) i → Fed at (to + 1) rest (taken fs i at 10 rest) (returned fs j to more)
 unfolding taken step at_text_line at_blank_end in_digits
@@ -595,9 +597,10 @@ return_same (InSingle t role b) j at to rest more fs (d, e) f = by_return (InSin
 return_same (AtSecondQuote t role b) j at to rest more fs (d, e) f = by_return (AtSecondQuote t role b) j (AtSecondQuote t role d) at to rest more fs (d, e) e f refl refl
 return_same (InDouble t role b) j at to rest more fs (d, e) f = by_return (InDouble t role b) j (InDouble t role d) at to rest more fs (d, e) e f refl refl
 return_same (InEscape t role b) j at to rest more fs (d, e) f = by_return (InEscape t role b) j (InEscape t role d) at to rest more fs (d, e) e f refl refl
-return_same (InDigits t role b left number) j at to rest more fs (d, e) f = tt
+return_same (InDigits t role b left number) j at to rest more fs (d, e) f =
+    subst (λ (x : Innermost). Fed at (to + 1) rest (taken fs (InDigits t role b left number) at 10 rest) (returned fs x to more)) (sym e) tt
 return_same (AfterQuoted y role b sp) j at to rest more fs (d, e) f = elim (cases_Bool (is_key_only role)) [
-  | inl k ↦ key_quoted fs y role b sp at rest (to + 1) (returned fs j to more) k
+  | inl k ↦ subst (λ (x : Innermost). Fed at (to + 1) rest (taken fs (AfterQuoted y role b sp) at 10 rest) (returned fs x to more)) (sym e) (key_quoted fs y role b d sp at to rest more k)
   | inr k ↦ by_return (AfterQuoted y role b sp) j (AfterQuoted y role d sp) at to rest more fs (d, e) e f refl (rw k refl)
 ]
 return_same (AfterValue w sp) j at to rest more fs e f = by_return (AfterValue w sp) j (AfterValue w sp) at to rest more fs e e f refl refl

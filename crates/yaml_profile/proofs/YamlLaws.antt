@@ -1,5 +1,5 @@
 -- Reading gives the value of the relation, and its first broken rule.
-use Rattle.std.proofs.Common.{◌≡◌, ℕ, ◌+◌, List, [], ◌∷◌, ◌++◌, Result, Ok, Err, refl, sym, ap, ◌∙◌, append-nil}
+use Rattle.std.proofs.Common.{◌≡◌, ℕ, ◌+◌, List, [], ◌∷◌, ◌++◌, Result, Ok, Err, refl, sym, ap, subst, ◌∙◌, append-nil}
 use Rattle.std.specs.Char.{len_utf8}
 use Rattle.edt_base.specs.declared.fault.End.{End}
 use Rattle.edt_base.specs.declared.fault.End.TheVariants as ending
@@ -10,6 +10,10 @@ use Rattle.yaml_profile.specs.Answers.{◌>>=◌}
 use Rattle.yaml_profile.specs.Fronts.{Front}
 use Rattle.yaml_profile.specs.Reading.{at_start, step, walk, characters, reading}
 use Rattle.yaml_profile.specs.Reads.{Reads}
+use Rattle.std.specs.Str.{encode_utf8_all}
+use Rattle.yaml_profile.specs.Written.{spell_file, IsSpelled}
+use Rattle.yaml_profile.proofs.ReadBytes.{spelled_by_a_tree}
+use Rattle.yaml_profile.proofs.WrittenBytes.{written_is_read}
 use Rattle.yaml_profile.specs.Yaml.{place_behind, Takes, at_end, IsYaml, Stops, IsFirst, IfValue, IfFault, IsFirstFault}
 
 not_both : {A : Type 0} (r : Result A Broken) (x : A) (b : Broken) → r ≡ Ok x → r ≡ Err b → ⊥
@@ -137,3 +141,22 @@ pub first_of : (r : Result Yaml End) (file bytes : List ℕ) → Reads file r (r
 first_of (Ok y) file bytes h = tt
 first_of (Err (ending.Fault f)) file bytes (b, e, q) = (b, refused bytes b e, q)
 first_of (Err (ending.Memory e)) file bytes h = tt
+
+-- ---- trees
+
+tree_is_read : (bytes : List ℕ) (v : Value) → IsSpelled bytes v → reading bytes ≡ Ok v
+tree_is_read bytes v s =
+    subst (λ (bs : List ℕ). reading bs ≡ Ok v) s.spelled (subst (λ (w : Value). reading (encode_utf8_all (spell_file s.file)) ≡ Ok w) s.value (written_is_read s.file s.is s.scalars))
+
+pub spelled_of : (r : Result Yaml End) (file bytes : List ℕ) → Reads file r (reading bytes) → IfValue r (IsSpelled bytes)
+spelled_of (Ok y) file bytes h = spelled_by_a_tree bytes (value_of y) h
+spelled_of (Err e) file bytes h = tt
+
+pub unique_of : (r : Result Yaml End) (file bytes : List ℕ) → Reads file r (reading bytes) → IfValue r (λ given. (v : Value) → IsSpelled bytes v → v ≡ given)
+unique_of (Ok y) file bytes h = λ v s. ok_same (reading bytes) v (value_of y) (tree_is_read bytes v s) h
+unique_of (Err e) file bytes h = tt
+
+pub unspelled_of : (r : Result Yaml End) (file bytes : List ℕ) → Reads file r (reading bytes) → IfFault r (λ _. (v : Value) → IsSpelled bytes v → ⊥)
+unspelled_of (Ok y) file bytes h = tt
+unspelled_of (Err (ending.Fault f)) file bytes (b, e, q) = λ v s. not_both (reading bytes) v b (tree_is_read bytes v s) e
+unspelled_of (Err (ending.Memory e)) file bytes h = tt

@@ -93,7 +93,8 @@ abbrev pub is_key_only : Role → Bool
 is_key_only KeyOnly = true
 is_key_only _ = false
 
--- a plain text begins; a tab may begin it, and is no part of it
+-- a plain text begins. A tab that begins it waits as a blank: it is part of the text if a character follows that is none,
+-- and a text of tabs alone is empty
 abbrev pub begin_plain : List Frame → Role → (at c : ℕ) → Result Front Broken
 begin_plain frames role at c = if c == 9 then Ok (front frames (InPlain (put_blank nothing_yet c) role at false))
     else Ok (front frames (InPlain (put nothing_yet c) role at false))

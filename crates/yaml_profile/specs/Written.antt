@@ -2,7 +2,7 @@
 use Rattle.std.specs.Prelude.{◌≡◌, ℕ, zero, suc, ◌+◌, ◌*◌, ◌<◌, ◌≤◌, Bool, true, false, not, ◌&&◌, ◌||◌, ◌==◌, nat_lt, List, [], ◌∷◌, ◌++◌, codes, if◌then◌else◌}
 use Rattle.std.specs.List.{list_all, list_any}
 use Rattle.std.specs.Prelude.{Option, Some, None}
-use Rattle.std.specs.Str.{bytes_eq}
+use Rattle.std.specs.Str.{bytes_eq, all_scalars, encode_utf8_all}
 use Rattle.edt_base.specs.YamlData.{Value, a_map, a_list, a_text, null, items_from}
 use Rattle.yaml_profile.specs.declared.block_text.Chomp.{Chomp}
 use Rattle.yaml_profile.specs.declared.block_text.Chomp.TheVariants.{Strip, Clip, Keep}
@@ -27,9 +27,9 @@ abbrev pub spell_ending : Ending → List ℕ
 spell_ending (Bare n) = spaces n ++ 10 ∷ []
 spell_ending (Noted n text) = spaces n ++ 35 ∷ (text ++ 10 ∷ [])
 
--- any character but a line feed and a carriage return
+-- any character but a line feed
 abbrev pub is_inner : ℕ → Bool
-is_inner c = not (c == 10) && not (c == 13)
+is_inner c = not (c == 10)
 
 abbrev pub IsEnding : Ending → Type 0
 IsEnding (Bare n) = Unit {0}
@@ -147,7 +147,7 @@ double_text xs = caught_up (with_inners nothing_yet xs)
 
 abbrev pub is_inner_quoted : Inner → Bool
 is_inner_quoted (Itself c) = is_inner c && not (c == 34) && not (c == 92)
-is_inner_quoted (Escaped c) = is_inner c && not (c == 120) && not (c == 117) && not (escaped c == 256)
+is_inner_quoted (Escaped c) = not (escaped c == 256)
 is_inner_quoted (ByTwo a b) = is_hex a && is_hex b
 is_inner_quoted (ByFour a b c d) = is_hex a && is_hex b && is_hex c && is_hex d && not (is_surrogate (by_four a b c d))
 is_inner_quoted LineEnd = true
@@ -168,9 +168,6 @@ single_text cs = caught_up (with_chars nothing_yet cs)
 
 abbrev pub is_feed : ℕ → Bool
 is_feed c = c == 10
-
-abbrev pub no_return : ℕ → Bool
-no_return c = not (c == 13)
 
 -- a further line of a plain text: the line end before it, blank lines, an indentation, and its characters
 pub record Further : Type 0 where
@@ -225,7 +222,7 @@ spell_scalar (Single cs) = 39 ∷ (spell_singles cs ++ 39 ∷ [])
 abbrev pub IsScalarText : (place : Option ℕ) → (flow ended : Bool) → (least : ℕ) → Scalar → Type 0
 IsScalarText place flow ended least (Plain c cs fs) = IsPlain place flow (line_ends ended fs) c cs × AreFurther flow ended least fs
 IsScalarText place flow ended least (Double xs) = list_all is_inner_quoted xs ≡ true
-IsScalarText place flow ended least (Single cs) = list_all no_return cs ≡ true
+IsScalarText place flow ended least (Single cs) = Unit {0}
 
 abbrev pub scalar_value : Scalar → Value
 scalar_value (Plain c cs fs) = scalar_of (plain_text (spell_plain c cs fs))
@@ -326,7 +323,7 @@ key_text (SingleKey cs n) = single_text cs
 abbrev pub IsKey : (place : Option ℕ) → Key → Type 0
 IsKey place (PlainKey c cs) = IsPlain place false false c cs × (bytes_eq (plain_text (c ∷ cs)) (codes "<<") ≡ false)
 IsKey place (DoubleKey xs n) = (list_all is_inner_quoted xs ≡ true) × (list_any is_line_end xs ≡ false)
-IsKey place (SingleKey cs n) = (list_all no_return cs ≡ true) × (list_any is_feed cs ≡ false)
+IsKey place (SingleKey cs n) = list_any is_feed cs ≡ false
 
 -- ---- block scalars
 
@@ -384,15 +381,19 @@ abbrev pub spell_note : Option Note → List ℕ
 spell_note None = []
 spell_note (Some n) = spell_ending (Noted n.indent n.text) ++ spell_gaps n.gaps
 
+-- a line of text at this indentation: at the first column it is no mark, which would end the text
+abbrev pub is_row : (indent c : ℕ) → List ℕ → Bool
+is_row indent c cs = is_inner c && list_all is_inner cs && not ((indent == 0) && is_mark true c cs)
+
 abbrev pub AreMore : ℕ → List TextLine → Type 0
 AreMore indent [] = Unit {0}
-AreMore indent (Line c cs ∷ ls) = (is_inner c ≡ true) × (list_all is_inner cs ≡ true) × AreMore indent ls
+AreMore indent (Line c cs ∷ ls) = (is_row indent c cs ≡ true) × AreMore indent ls
 AreMore indent (Blank n ∷ ls) = (n ≤ indent) × AreMore indent ls
 
--- where this is the least column, and never at the first, where a mark would end it
+-- where this is the least column
 abbrev pub AreRows : (least : ℕ) → Option Rows → Type 0
 AreRows least None = Unit {0}
-AreRows least (Some r) = (least ≤ r.indent) × (0 < r.indent) × (is_inner r.first ≡ true) × ((r.first == 32) ≡ false) × (list_all is_inner r.text ≡ true) × AreMore r.indent r.more
+AreRows least (Some r) = (least ≤ r.indent) × ((r.first == 32) ≡ false) × (is_row r.indent r.first r.text ≡ true) × AreMore r.indent r.more
 
 abbrev pub AreLines : (least : ℕ) → Lines → Type 0
 AreLines least l = IsEnding l.ending × IsApart l.ending × AreRows least l.rows
@@ -590,10 +591,13 @@ ends_begun begun [] = false
 ends_begun begun (c ∷ []) = begun && (c == 10)
 ends_begun begun (c ∷ d ∷ ds) = ends_begun (not (c == 10)) (d ∷ ds)
 
--- a carriage return that is a character stands before no line feed
-abbrev pub is_clear : List ℕ → Bool
-is_clear [] = true
-is_clear (c ∷ cs) = not ((c == 13) && begins_with 10 cs) && is_clear cs
+-- a carriage return that is a character stands before no line feed of the file; it may stand before a line end that has
+-- one of its own, and where the last line end is cut off
+abbrev pub is_clear : (cut : Bool) → (returns : ℕ → Bool) → (line : ℕ) → List ℕ → Bool
+is_clear cut returns line [] = true
+is_clear cut returns line (c ∷ cs) =
+    if c == 10 then is_clear cut returns (suc line) cs
+    else not ((c == 13) && begins_with 10 (with_ends cut returns line cs)) && is_clear cut returns line cs
 
 -- a file: what stands before its value, and the value, if there is one; which lines end with a carriage return before the
 -- line feed, and whether the last line's end is cut off
@@ -626,4 +630,12 @@ IsBody None = Unit {0}
 IsBody (Some b) = IsBlock 0 0 b
 
 abbrev pub IsFile : File → Type 0
-IsFile f = IsHead f.head × IsBody f.block × (is_clear (spell_whole f) ≡ true) × (f.cut ≡ true → ends_begun false (spell_whole f) ≡ true)
+IsFile f = IsHead f.head × IsBody f.block × (is_clear f.cut f.returns 0 (spell_whole f) ≡ true) × (f.cut ≡ true → ends_begun false (spell_whole f) ≡ true)
+
+-- the bytes are spelled by a tree of this value
+pub record IsSpelled (bytes : List ℕ) (v : Value) : Type 0 where
+  pub file : File
+  pub is : IsFile file
+  pub scalars : all_scalars (spell_file file) ≡ true
+  pub spelled : encode_utf8_all (spell_file file) ≡ bytes
+  pub value : file_value file ≡ v

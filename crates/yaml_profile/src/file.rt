@@ -9,6 +9,7 @@ ghost use Rattle.yaml_profile.specs.BlockText.{block_text};
 ghost use Rattle.yaml_profile.specs.Fronts.{all_closed};
 ghost use Rattle.yaml_profile.specs.Reading.{at_start, taken, takes_return, step, walk, outside_flow, last_line, ends, begun_len, broken_place, reading};
 ghost use Rattle.yaml_profile.specs.Reads.{Reads};
+ghost use Rattle.yaml_profile.specs.Written.{IsSpelled};
 ghost use Rattle.yaml_profile.specs.Yaml.{IsYaml, IsFirst, IfValue, IfFault, IsFirstFault};
 ghost use Rattle.yaml_profile.specs.declared.stop.Broken.{Broken};
 ghost use Rattle.yaml_profile.specs.Shown.{frames_of, inner_of, shown};
@@ -268,6 +269,9 @@ fn answer(alloc: Global, file: &Text, src: &[u8]) -> Result<Yaml, End>
 /// begins that its map has already, Y4 where the 33rd map or list begins. At one byte Y1 comes last.
 /// `End::Memory` where memory was wanted.
 pub fn read(alloc: Global, file: &Text, src: &[u8]) -> Result<Yaml, End>
+    ensures spelled { IfValue result (IsSpelled src.now) }
+    ensures unique { IfValue result (λ given. (v : Value) → IsSpelled src.now v → v ≡ given) }
+    ensures unspelled { IfFault result (λ _. (v : Value) → IsSpelled src.now v → ⊥) }
     ensures found { IfValue result (IsYaml src.now) }
     ensures only { IfValue result (λ given. (v : Value) → IsYaml src.now v → v ≡ given) }
     ensures good { IfValue result (λ _. (b : Broken) → IsFirst src.now b → ⊥) }

@@ -19,4 +19,4 @@ mod texts;
 mod values;
 
 pub use file::read;
-pub use laws::written_files_are_read;
+pub use laws::{read_files_are_written, written_files_are_read};
