@@ -14,8 +14,9 @@ use Rattle.dt_names.proofs.Scan.{AreNames, scan_begins, scan_grows, scan_new, sc
 names : (b : BoundData) → AreNames (facts b)
 names b = (parts_told b, texts_spell)
 
-pub search_begins : (b : BoundData) (left : List FactData) (texts : List (List ℕ)) → left ≡ facts b → IsScanned (facts b) left texts [] [] []
-search_begins b left texts e = subst (λ (l : List FactData). IsScanned (facts b) l texts [] [] []) (sym e) (scan_begins (facts b) texts)
+pub search_begins : (b : BoundData) (left : List FactData) (texts : List (List ℕ)) (keys : List Key) (held : List SaidData) (ds : List ℕ)
+    → left ≡ facts b → keys ≡ [] → held ≡ [] → ds ≡ [] → IsScanned (facts b) left texts keys held ds
+search_begins b left texts keys held ds e k h d = rw e (rw k (rw h (rw d (scan_begins (facts b) texts))))
 
 -- the next definition stands before those that are left
 next_scanned : (fs : List FactData) (old new : LabelsData) (f : FactData) (k : Key) (keys : List Key) (held : List SaidData) (ds : List ℕ)

@@ -1,4 +1,5 @@
 pub mod Alike
+pub mod Answer
 pub mod Clash
 pub mod Elems
 pub mod Facts

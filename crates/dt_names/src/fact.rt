@@ -3,7 +3,7 @@
 ghost use Rattle.std.specs.Prelude.{◌≡◌, ◌∷◌, ◌++◌, [], MatchOption, Some, codes, drop, false, option_map, take, true, if◌then◌else◌};
 ghost use Rattle.std.specs.Str.{bytes_eq};
 ghost use Rattle.dt_names.specs.Clash.{said};
-ghost use Rattle.dt_names.specs.Facts.{full_name};
+ghost use Rattle.dt_names.specs.Facts.{full_name, id_at};
 ghost use Rattle.dt_names.specs.Keys.{IsParted, is_of_prop};
 ghost use Rattle.dt_names.specs.Lists.{things_of};
 ghost use Rattle.dt_names.specs.Pieces.{lit, form, num};
@@ -19,7 +19,7 @@ use crate::place::Places;
 use crate::row::{At, Body, Ending, Row, Things};
 use crate::word::{Id, Name, Word};
 use crate::words::Words;
-use edt_base::Bound;
+use edt_base::{Bound, NodeId};
 use std::marker::Model;
 
 /// A definition of a bound tree's header. Contracts see it as the plain `FactData`.
@@ -63,6 +63,14 @@ impl<'a> Fact<'a> {
         }
     }
 
+    /// The node that the definition belongs to: that whose name or entry it speaks of, or the node
+    /// of a word or of a compatible string's first instance.
+    pub(crate) fn owner(&self) -> NodeId
+        ensures { result ≡ self.now.owner }
+    {
+        NodeId(self.row.owner)
+    }
+
     /// The definition's parameters.
     pub fn params(&self) -> Params
         ensures { result ≡ self.now.params }
@@ -78,7 +86,7 @@ impl<'a> Fact<'a> {
         let id = if row.of_tree {
             None
         } else {
-            Some(Word::Id(Id::of(self.bound, row.owner)))
+            Some(id_word(self.bound, row.owner))
         };
         Pieces::new(name_words(id, row.at, row.ending), Listed::Nothing)
     }
@@ -138,7 +146,7 @@ impl<'a> Fact<'a> {
 /// The pieces of a body, of a definition of a node.
 pub(crate) fn body_of<'a>(
     bound: &'a Bound,
-    owner: usize,
+    owner: u32,
     params: Params,
     body: Body<'a>,
 ) -> Pieces<'a>
@@ -159,15 +167,22 @@ pub(crate) fn body_of<'a>(
     }
 }
 
+// The id of a node, as a word.
+fn id_word(bound: &Bound, node: u32) -> Word<'_>
+    ensures { pieces_in (Some result) ≡ id_at bound.now.tree.nodes node }
+{
+    Word::Id(Id::of(bound, node as usize))
+}
+
 // What a body visits, as its list has it.
-fn visited<'a>(bound: &'a Bound, owner: usize, things: Things<'a>) -> Visited<'a>
+fn visited<'a>(bound: &'a Bound, owner: u32, things: Things<'a>) -> Visited<'a>
     ensures { things_of result ≡ things_at bound.now.tree.nodes owner things.entry }
 {
     match things {
         Things::Ids(ids) => Visited::Ids(bound, ids),
         Things::OkayIds(ids) => Visited::OkayIds(bound, ids),
         Things::Elems(name, count) => {
-            Visited::Elems(Id::of(bound, owner), name, Places::below(count))
+            Visited::Elems(Id::of(bound, owner as usize), name, Places::below(count))
         }
         Things::Numbers(count) => Visited::Numbers(Places::below(count)),
         Things::Nodes => Visited::Nodes(bound, Places::below(node_count(bound))),

@@ -22,7 +22,7 @@ use std::marker::Model;
 #[derive(Drop)]
 pub(crate) struct Held<'a> {
     pub(crate) bound: &'a Bound,
-    pub(crate) owner: usize,
+    pub(crate) owner: u32,
     pub(crate) params: Params,
     pub(crate) body: Body<'a>,
 }
@@ -82,10 +82,10 @@ fn is_same_body(a: &Held<'_>, b: &Held<'_>) -> bool
 // Things that are seen to be the same without being spelled.
 fn same_things(
     a: &Bound,
-    owner: usize,
+    owner: u32,
     first: Things<'_>,
     b: &Bound,
-    other: usize,
+    other: u32,
     second: Things<'_>,
 ) -> bool
     ensures { result ≡ true → AreSame (things_at a.now.tree.nodes owner first.entry) (things_at b.now.tree.nodes other second.entry) }
@@ -97,7 +97,7 @@ fn same_things(
         },
         Things::Elems(name, count) => match second {
             Things::Elems(twin, number) => {
-                count == number && same_elems(path(a, owner), name.text, path(b, other), twin.text)
+                count == number && same_elems(path(a, owner as usize), name.text, path(b, other as usize), twin.text)
             }
             _ => false,
         },

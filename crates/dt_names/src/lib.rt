@@ -2,6 +2,7 @@
 //! "Devicetree API" and its macros.bnf). `facts` in `specs/Facts.antt` is the table of them.
 #![tactic(auto)]
 
+mod answer;
 mod cell_rows;
 mod child_place;
 mod child_rows;
@@ -29,6 +30,7 @@ mod prop_rows;
 mod reg_rows;
 mod row;
 mod rows;
+mod search;
 mod section;
 mod sections;
 mod spelled;
@@ -37,9 +39,11 @@ mod tree_rows;
 mod word;
 mod words;
 
+pub use answer::Clash;
 pub use fact::Fact;
 pub use facts::Facts;
 pub use forms::form;
 pub use laws::names_are_told;
 pub use piece::{Params, Piece};
 pub use pieces::Pieces;
+pub use search::clash;

@@ -73,7 +73,7 @@ pub(crate) enum Things<'a> {
 /// A row: a definition of the node `owner`.
 #[derive(Clone, Copy)]
 pub(crate) struct Row<'a> {
-    pub(crate) owner: usize,
+    pub(crate) owner: u32,
     /// The name has no id: the definition is one of the tree.
     pub(crate) of_tree: bool,
     pub(crate) at: At<'a>,

@@ -30,7 +30,7 @@ pub(crate) fn walk<'a>(
     ensures { result ≡ walk_row owner at.entry ending.entry params body.entry }
 {
     Row {
-        owner: owner as usize,
+        owner,
         of_tree: false,
         at,
         ending,
@@ -83,7 +83,7 @@ pub(crate) fn tree_row<'a>(
     ensures { result ≡ tree_row owner at.entry ending.entry params body.entry }
 {
     Row {
-        owner: owner as usize,
+        owner,
         of_tree: true,
         at,
         ending,
