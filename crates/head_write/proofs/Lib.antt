@@ -1,4 +1,5 @@
 pub mod Doubles
+pub mod Families
 pub mod Puts
 pub mod Roots
 pub mod Runs

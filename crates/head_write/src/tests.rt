@@ -1,5 +1,8 @@
 //! Headers of bound trees made by hand.
 
+mod clashes;
+mod family;
+mod repeated;
 mod roots;
 mod whole;
 
