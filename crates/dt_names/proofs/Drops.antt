@@ -1,5 +1,5 @@
 -- What is left of a list from a place on.
-use Rattle.std.proofs.Common.{◌≡◌, ℕ, zero, ◌+◌, ◌^◌, ◌<◌, suc, List, [], ◌∷◌, Option, Some, None, drop, length, option_map, slice_get, unwrap_or, refl, arith, ap}
+use Rattle.std.proofs.Common.{◌≡◌, ℕ, zero, ◌+◌, ◌^◌, ◌<◌, suc, List, [], ◌∷◌, Some, None, drop, length, option_map, slice_get, unwrap_or, refl, arith, ap}
 use Rattle.std.proofs.Math.Seq.{drop-cons}
 use Rattle.std.proofs.lemmas.Option.{slice_get_within, get_or_from_slice_get}
 use Rattle.edt_base.specs.NodeData.{NodeData}

@@ -1,12 +1,12 @@
 -- The keys of a set, and a key that is looked up there.
-use Rattle.std.proofs.Common.{◌≡◌, ◌<◌, ℕ, Bool, length, get_or, true, false, not, List, [], ◌∷◌, ◌++◌, ◌&&◌, Option, Some, nat_eq, refl, sym, ap, ◌∙◌, arith, if◌then◌else◌}
+use Rattle.std.proofs.Common.{◌≡◌, ◌<◌, ℕ, Bool, length, get_or, true, false, not, List, [], ◌∷◌, ◌++◌, ◌&&◌, Some, nat_eq, refl, sym, ap, ◌∙◌, arith}
 use Rattle.std.specs.Prelude.{slice_get}
 use Rattle.std.specs.List.{list_any}
 use Rattle.std.proofs.lemmas.Bool.{and_parts, not-true}
 use Rattle.std.proofs.lemmas.Option.{slice_get_within, slice_get-get_or}
 use Rattle.indexmap.specs.IndexSet.{insert_key}
-use Rattle.dt_names.specs.Clash.{SaidData, same_said}
-use Rattle.dt_names.specs.Firsts.{IsNew, IsHeld}
+use Rattle.dt_names.specs.Clash.{SaidData}
+use Rattle.dt_names.specs.Firsts.{IsNew}
 use Rattle.dt_names.specs.declared.key.Key.{Key}
 use Rattle.dt_names.proofs.Scan.{any_some, get_within, key_same}
 

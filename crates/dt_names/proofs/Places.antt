@@ -1,6 +1,5 @@
 -- The place of a number among rising ones, as a binary search finds it.
-use Rattle.std.proofs.Common.{◌≡◌, ℕ, zero, suc, ◌+◌, ◌<◌, ◌≤◌, List, [], ◌∷◌, Bool, true, false, Option, Some, Result, Ok, Err, if◌then◌else◌, length, get_or, nat_lt, refl, ap, arith, sym, subst, slice_get}
-use Rattle.std.specs.Result.{MatchResult}
+use Rattle.std.proofs.Common.{◌≡◌, ℕ, zero, suc, ◌+◌, ◌<◌, ◌≤◌, List, [], ◌∷◌, Bool, true, false, Some, Ok, Err, if◌then◌else◌, length, get_or, nat_lt, arith, sym, subst, slice_get}
 use Rattle.std.specs.Ordering.{nat_cmp}
 use Rattle.std.specs.List.{filter}
 use Rattle.std.specs.List.Sorted.{IsBinarySearchResult}

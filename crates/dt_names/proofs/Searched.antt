@@ -3,7 +3,7 @@ use Rattle.std.proofs.Common.{◌≡◌, ◌+◌, ◌++◌, ℕ, List, [], ◌�
 use Rattle.edt_base.specs.BoundData.{BoundData}
 use Rattle.dt_names.specs.Clash.{SaidData, said, same_said, IsClash}
 use Rattle.dt_names.specs.Facts.{FactData, facts}
-use Rattle.dt_names.specs.Firsts.{HasMet, IsHeld, IsNew}
+use Rattle.dt_names.specs.Firsts.{HasMet}
 use Rattle.dt_names.specs.Kept.{LabelsData, IsLabelled}
 use Rattle.dt_names.specs.Scanned.{IsScanned}
 use Rattle.dt_names.specs.declared.firsts.Met.TheVariants as met

@@ -1,5 +1,5 @@
 -- The answer of the search for clashes.
-use Rattle.std.specs.Prelude.{ℕ, List}
+use Rattle.std.specs.Prelude.{List}
 use Rattle.dt_names.specs.Clash.{IsClash, AreDoubles}
 use Rattle.dt_names.specs.Facts.{FactData}
 use Rattle.dt_names.specs.declared.answer.Clash.{Clash}

@@ -1,5 +1,5 @@
 -- What the rows of the walk stand for: the shapes of names and bodies, and the definition that a row is.
-use Rattle.std.specs.Prelude.{◌++◌, ℕ, Bool, true, false, List, [], ◌∷◌, Option, Some, None, codes, length, map, take, if◌then◌else◌}
+use Rattle.std.specs.Prelude.{◌++◌, ℕ, true, false, List, [], ◌∷◌, Option, Some, None, codes, length, map, take, if◌then◌else◌}
 use Rattle.std.specs.List.{range_with_len}
 use Rattle.edt_base.specs.IndexData.{path_at}
 use Rattle.edt_base.specs.NodeData.{NodeData}

@@ -1,5 +1,5 @@
 -- What a search for clashes knows: of the definitions so far, the first of each name is held under the numbers of the name's texts.
-use Rattle.std.specs.Prelude.{◌≡◌, ◌+◌, ◌++◌, ℕ, true, List, [], ◌∷◌, Some, length, slice_get}
+use Rattle.std.specs.Prelude.{◌≡◌, ◌+◌, ◌++◌, ℕ, true, List, [], Some, length, slice_get}
 use Rattle.std.specs.List.{Contains}
 use Rattle.dt_names.specs.Clash.{SaidData, said, same_said, AreFree, doubles_from}
 use Rattle.dt_names.specs.Facts.{FactData}

@@ -83,6 +83,23 @@ impl<'a> ElemLines<'a> {
         }
     }
 
+    // Puts those of another element in the place of these. Apart from `next`, which needn't hold room for
+    // them.
+    #[inline(never)]
+    fn begin(
+        &mut self,
+        bound: &'a Bound,
+        n: u32,
+        name: Name<'a>,
+        choices: &'a [(u32, Text)],
+        i: usize,
+        elem: Elem<'a>,
+    )
+        ensures { self.new ≡ elem_lines bound.now.tree.nodes n (path_at bound.now.tree.nodes n) name.entry.text.now choices.now i (element elem.entry) }
+    {
+        *self = ElemLines::new(bound, n, name, choices, i, elem);
+    }
+
     fn next(&mut self) -> Option<Fact<'a>>
         ensures { MatchOption result ((self.old ≡ []) × (self.new ≡ [])) (λ x. self.old ≡ x ∷ self.new) }
     {
@@ -221,7 +238,7 @@ impl<'a> ElemRows<'a> {
             let (elem, rest) = next_elem(self.elems)?;
             let holds = self.index < count;
             prove!(holds);
-            self.lines = ElemLines::new(
+            self.lines.begin(
                 self.bound,
                 self.owner,
                 self.name,

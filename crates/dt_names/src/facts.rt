@@ -1,13 +1,14 @@
 //! All definitions of a bound tree, in order.
 
-ghost use Rattle.std.specs.Prelude.{◌≡◌, ◌∷◌, [], MatchOption};
+ghost use Rattle.std.specs.Prelude.{◌≡◌, ◌∷◌, [], MatchOption, unwrap_or};
+ghost use Rattle.edt_base.specs.IndexData.{path_at};
 ghost use Rattle.dt_names.specs.Facts.{each, facts, titled_node};
 
 use crate::child_place::node_from;
 use crate::fact::Fact;
 use crate::node_rows::{TitledNode, titled_node};
 use crate::tree_rows::TitledTree;
-use edt_base::Bound;
+use edt_base::{Bound, NodeRec};
 use std::marker::Model;
 
 /// The definitions of all nodes that are left.
@@ -50,10 +51,20 @@ impl<'a> NodesRows<'a> {
             let Some(node) = node_from(self.bound, self.index) else {
                 return None;
             };
-            self.node = titled_node(self.bound, self.index, node);
+            begin_node(&mut self.node, self.bound, self.index, node);
             self.index += 1;
         }
     }
+}
+
+// Puts the definitions of the node n in the place of others. Apart from `next`, which needn't hold room
+// for them: a function pays for its locals at each call.
+#[inline(never)]
+fn begin_node<'a>(rows: &mut Option<TitledNode<'a>>, bound: &'a Bound, n: u32, node: &'a NodeRec)
+    requires { path_at bound.now.tree.nodes n ≡ node.now.path }
+    ensures { unwrap_or rows.new [] ≡ titled_node bound.now n node.now }
+{
+    *rows = titled_node(bound, n, node);
 }
 
 /// The definitions of a bound tree that are still to come, in the header's order: those of each node

@@ -97,7 +97,13 @@ fn same_things(
         },
         Things::Elems(name, count) => match second {
             Things::Elems(twin, number) => {
-                count == number && same_elems(path(a, owner as usize), name.text, path(b, other as usize), twin.text)
+                count == number
+                    && same_elems(
+                        path(a, owner as usize),
+                        name.text,
+                        path(b, other as usize),
+                        twin.text,
+                    )
             }
             _ => false,
         },

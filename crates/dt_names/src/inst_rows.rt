@@ -116,7 +116,7 @@ impl<'a> InstRows<'a> {
             };
             let compat = inst.compat.as_str().as_bytes();
             self.places = Some(PlaceRows::new(self.bound, compat, inst.nodes.as_slice()));
-            self.okay = okay_rows(self.bound, inst);
+            begin_okay(&mut self.okay, self.bound, inst);
             self.rest = rest;
         }
     }
@@ -156,6 +156,15 @@ impl<'a> OkayRows<'a> {
         }
         self.walks.next()
     }
+}
+
+// Puts the definitions of the okay instances of a compatible string in the place of others. Apart from
+// `next`, which needn't hold room for them.
+#[inline(never)]
+fn begin_okay<'a>(rows: &mut OkayRows<'a>, bound: &'a Bound, inst: &'a Inst)
+    ensures { rows.new ≡ (if nat_lt 0 inst.now.okay then okay_facts bound.now.tree.nodes (unwrap_or (slice_get inst.now.nodes 0) 0) inst.now else []) }
+{
+    *rows = okay_rows(bound, inst);
 }
 
 // The definitions of the okay instances, where there are some.

@@ -61,11 +61,20 @@ impl<'a> IrqRows<'a> {
         let (irq, rest) = self.rest.split_first()?;
         let holds = self.index < count;
         prove!(holds);
-        self.entry = EntryRows::of_irq(self.bound, self.owner, self.index, irq);
+        begin_irq(&mut self.entry, self.bound, self.owner, self.index, irq);
         self.index += 1;
         self.rest = rest;
         self.entry.next()
     }
+}
+
+// Puts the definitions on an interrupt in the place of others. Apart from `next`, which needn't hold room
+// for them.
+#[inline(never)]
+fn begin_irq<'a>(rows: &mut EntryRows<'a>, bound: &'a Bound, n: u32, i: usize, irq: &'a Irq)
+    ensures { rows.new ≡ irq_facts n (path_at bound.now.tree.nodes n) i irq.now }
+{
+    *rows = EntryRows::of_irq(bound, n, i, irq);
 }
 
 /// The definitions on a node's ranges and interrupts that are left.

@@ -88,9 +88,21 @@ pub(crate) fn words_len(words: &Words) -> u64
     with_word(&words.first, len)
 }
 
+#[tactic(auto, unfolding(crate::specs::Pieces::spells))]
 /// The length of a list as spelled, at most the greatest 64-bit number: time in proportion to the
 /// number of its items, whatever their lengths.
 pub(crate) fn list_len(list: Listed) -> u64
+    ensures { result ≡ spelled_size (listed list.entry) }
+{
+    match list {
+        Listed::Nothing => 0,
+        _ => items_len(list),
+    }
+}
+
+// The same, item by item.
+#[inline(never)]
+fn items_len(list: Listed) -> u64
     ensures { result ≡ spelled_size (listed list.entry) }
 {
     let mut len: u64 = 0;

@@ -275,6 +275,15 @@ pub(crate) fn shown<'a>(bound: &'a Bound, n: u32, prop: &'a Prop) -> Option<Prop
     None
 }
 
+// Puts the definitions on a property in the place of others. Apart from `next`, which needn't hold room
+// for them.
+#[inline(never)]
+fn begin_prop<'a>(rows: &mut Option<PropRows<'a>>, bound: &'a Bound, n: u32, prop: &'a Prop)
+    ensures { unwrap_or rows.new [] ≡ prop_facts bound.now.tree.nodes n (path_at bound.now.tree.nodes n) prop.now }
+{
+    *rows = shown(bound, n, prop);
+}
+
 /// The definitions on a node's properties that are left.
 #[derive(Drop)]
 pub(crate) struct PropsRows<'a> {
@@ -321,7 +330,7 @@ impl<'a> PropsRows<'a> {
             let Some((prop, rest)) = self.rest.split_first() else {
                 return None;
             };
-            self.prop = shown(self.bound, self.owner, prop);
+            begin_prop(&mut self.prop, self.bound, self.owner, prop);
             self.rest = rest;
         }
     }

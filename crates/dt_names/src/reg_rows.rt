@@ -48,6 +48,15 @@ impl<'a> RegLines<'a> {
         }
     }
 
+    // Puts those of another register in the place of these. Apart from `next`, which needn't hold room for
+    // them.
+    #[inline(never)]
+    fn begin(&mut self, bound: &'a Bound, n: u32, i: usize, reg: &'a Reg)
+        ensures { self.new ≡ reg_facts n (path_at bound.now.tree.nodes n) i reg.now }
+    {
+        *self = RegLines::new(bound, n, i, reg);
+    }
+
     fn next(&mut self) -> Option<Fact<'a>>
         ensures { MatchOption result ((self.old ≡ []) × (self.new ≡ [])) (λ x. self.old ≡ x ∷ self.new) }
     {
@@ -107,7 +116,7 @@ impl<'a> RegRows<'a> {
         let (reg, rest) = self.rest.split_first()?;
         let holds = self.index < count;
         prove!(holds);
-        self.lines = RegLines::new(self.bound, self.owner, self.index, reg);
+        self.lines.begin(self.bound, self.owner, self.index, reg);
         self.index += 1;
         self.rest = rest;
         self.lines.next()
@@ -203,16 +212,20 @@ impl<'a> RangeRows<'a> {
         let (range, rest) = self.rest.split_first()?;
         let holds = self.index < count;
         prove!(holds);
-        self.indexed = range_lines(
-            self.bound,
-            self.owner,
-            At::Nth("_RANGES_IDX_", self.index),
-            range,
-        );
+        begin_range(&mut self.indexed, self.bound, self.owner, self.index, range);
         self.index += 1;
         self.rest = rest;
         self.indexed.next()
     }
+}
+
+// Puts the definitions on a range in the place of others. Apart from `next`, which needn't hold room for
+// them.
+#[inline(never)]
+fn begin_range<'a>(rows: &mut Queue<'a>, bound: &'a Bound, n: u32, i: usize, range: &'a Range)
+    ensures { rows.new ≡ range_facts n (path_at bound.now.tree.nodes n) i range.now }
+{
+    *rows = range_lines(bound, n, At::Nth("_RANGES_IDX_", i), range);
 }
 
 // A range, by its place.

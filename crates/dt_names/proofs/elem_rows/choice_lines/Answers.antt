@@ -1,4 +1,4 @@
-use Rattle.std.proofs.Common.{rules, refl, sym}
+use Rattle.std.proofs.Common.{refl}
 use Rattle.dt_names.proofs.elem_rows.choice_lines.Goals as goal
 
 pub returns : goal.returns

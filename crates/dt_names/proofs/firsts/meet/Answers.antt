@@ -1,5 +1,4 @@
-use Rattle.std.proofs.Common.{◌≡◌, ℕ, refl, sym, ◌∙◌}
-use Rattle.dt_names.specs.Firsts.{IsHeld}
+use Rattle.std.proofs.Common.{refl, sym, ◌∙◌}
 use Rattle.dt_names.proofs.Meets.{key_new, key_put, key_kept, key_found, held_found}
 use Rattle.dt_names.proofs.firsts.meet.Goals as goal
 

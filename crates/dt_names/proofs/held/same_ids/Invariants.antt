@@ -1,4 +1,4 @@
-use Rattle.std.proofs.Common.{◌≡◌, map, length}
+use Rattle.std.proofs.Common.{map, length}
 use Rattle.dt_names.specs.Clash.{AreSame}
 use Rattle.dt_names.specs.Facts.{id_at}
 use Rattle.dt_names.proofs.held.same_ids.Given as goal

@@ -1,5 +1,5 @@
 use Rattle.dt_names.proofs.Lengths.{count_more, counted}
-use Rattle.dt_names.proofs.length.list_len.Goals as goal
+use Rattle.dt_names.proofs.length.items_len.Goals as goal
 
 pub loop-words-preserved : goal.loop-words-preserved
 loop-words-preserved c =
