@@ -1,7 +1,7 @@
 #!/usr/bin/env bash
 # Time of `dt_names::clash`, and of `head_write::measure` and `head_write::emit` into memory, on bound trees of a
 # root alone, at each doubling of what is bound to it: once with registers alone and once with properties of several
-# types, entries, interrupts and instances, up to a header of about 16 MiB. All three are to grow no faster than the
+# types, entries, interrupts and instances, up to headers of 18 and 38 MB. All three are to grow no faster than the
 # header, and `clash` is to take well under a second for 200,000 definitions. No definition clashes or is repeated.
 #
 # The repository's programs needn't call them for this: a small program that does is added to a copy of the
