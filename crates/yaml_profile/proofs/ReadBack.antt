@@ -15,8 +15,9 @@ use Rattle.yaml_profile.specs.Layout.{in_line, in_comment, in_header, in_header_
 use Rattle.yaml_profile.specs.Reading.{taken, step, walk, ends, outside_flow, last_line}
 use Rattle.yaml_profile.proofs.ReadSteps.{past, with_returns, line_walk, ReadsOn, OnFrom, no_feed_ahead}
 use Rattle.yaml_profile.proofs.WrittenPlaces.{Alike, Fits, Begun, Same, Ahead, taken_same, feed_same, returned, return_same}
-use Rattle.yaml_profile.proofs.WrittenEnds.{Finishes, ahead, ends_same, outside_to, self_line, step_is, fits_feed, no_blank_end, going_is, more_is}
+use Rattle.yaml_profile.proofs.WrittenEnds.{Finishes, ahead, ends_same, outside_to, self_line, step_is, fits_feed, no_blank_end}
 use Rattle.yaml_profile.proofs.ReadEnds.{lines_of, is_cut, returned_at, by_lines, lines_other, told, so_from}
+use Rattle.yaml_profile.proofs.WrittenLines.{going_is, more_is}
 
 -- ---- the end of the file
 

@@ -21,6 +21,8 @@ use Rattle.yaml_profile.specs.Written.{spaces, word_ends, stays_plain, is_mark, 
 use Rattle.yaml_profile.proofs.ReadSteps.{past, is_that, with_returns, line_walk, ReadsOn, OnFrom, all_ended, step_by, word_ahead, mark_ahead}
 use Rattle.yaml_profile.proofs.ReadParts.{MayBegin}
 use Rattle.yaml_profile.proofs.ReadGaps.{for_that, spaces_one_more}
+use Rattle.yaml_profile.proofs.WrittenParagraphs.{blank_waits, chars_append, end_waits, is_inside}
+use Rattle.yaml_profile.proofs.WrittenTexts.{spaced_after, swapped}
 
 -- ---- tests
 
@@ -44,12 +46,6 @@ none_of false true c d h = absurd (let q : true ≡ false = h in cc)
 none_of false false true d h = absurd (let q : true ≡ false = h in cc)
 none_of false false false d h = (refl, refl, refl, h)
 
-swapped : (a b : Bool) → (a && b) ≡ false → (b && a) ≡ false
-swapped true true h = h
-swapped true false h = refl
-swapped false true h = refl
-swapped false false h = refl
-
 -- one character more that stays in a plain text
 pub stays_more : (flow spaced : Bool) (c : ℕ) (text rest cs : List ℕ) → cs ≡ text ++ rest → is_stop flow spaced c cs ≡ false → stays_plain flow (c == 32) (word_ends true rest) text ≡ true
     → stays_plain flow spaced (word_ends true rest) (c ∷ text) ≡ true
@@ -60,11 +56,6 @@ stays_more flow spaced c text rest cs e s h =
     rw (n.2, a, n.1, swapped (is_flow_sign c) flow n.3, h) refl
 
 -- ---- a line
-
--- whether a space stands before what follows these characters
-abbrev pub spaced_after : Bool → List ℕ → Bool
-spaced_after sp [] = sp
-spaced_after sp (c ∷ cs) = spaced_after (c == 32) cs
 
 -- the characters of a line up to the one that ends the text there
 pub record Stopped (fs : List Frame) (role : Role) (begun : ℕ) (spaced : Bool) (t : Folding) (at : ℕ) (xs : List ℕ) (v : Value) : Type 0 where
@@ -119,24 +110,6 @@ line_read (c ∷ cs) fs t role begun spaced at v e h =
     ]
 
 -- ---- the next line
-
-abbrev pub is_inside : Seam → Bool
-is_inside Inside = true
-is_inside _ = false
-
-blank_waits : (m : Seam) (t : Folding) (c : ℕ) → is_inside m ≡ false → after_blank m t c ≡ t
-blank_waits Inside t c h = absurd (let q : true ≡ false = h in cc)
-blank_waits Folds t c h = refl
-blank_waits Joins t c h = refl
-
-line_waits : (m : Seam) (t : Folding) → t.seam ≡ m → is_inside (after_line m t).seam ≡ false
-line_waits Inside t e = refl
-line_waits Folds t e = rw e refl
-line_waits Joins t e = rw e refl
-
--- behind a line end a text waits
-pub end_waits : (t : Folding) → is_inside (end_line t).seam ≡ false
-end_waits t = line_waits t.seam t refl
 
 line_text : (m : Seam) (t : Folding) → (after_line m t).text ≡ t.text
 line_text Inside t = refl
@@ -426,10 +399,6 @@ stays_before flow spaced e (c ∷ cs) ys h =
     let a = and_parts _ _ h in
     let b : (not (c == 10) && not ((c == 58) && word_ends (word_ends e ys) cs) && not ((c == 35) && spaced) && not (flow && is_flow_sign c)) ≡ true = rw (← word_within cs ys e) a.0 in
     rw (b, stays_before flow (c == 32) e cs ys a.1) refl
-
-pub chars_append : (xs ys : List ℕ) (t : Folding) → with_chars t (xs ++ ys) ≡ with_chars (with_chars t xs) ys
-chars_append [] ys t = refl
-chars_append (x ∷ xs) ys t = chars_append xs ys (with_char t x)
 
 blank_text : (m : Seam) (t : Folding) (c : ℕ) → (after_blank m t c).text ≡ t.text
 blank_text Inside t c = refl

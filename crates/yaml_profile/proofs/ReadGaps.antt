@@ -14,6 +14,7 @@ use Rattle.yaml_profile.specs.Reading.{taken, ends}
 use Rattle.yaml_profile.specs.Written.{spaces, Ending, Bare, Noted, spell_ending, is_inner, IsEnding, IsApart, spell_gaps, AreGaps, Inline, Over, Flow, spell_flow, IsFlow, flow_value, Flowing}
 use Rattle.yaml_profile.proofs.ReadSteps.{past, past_append, past_spaces, is_that, with_returns, line_walk, ReadsOn, OnFrom, all_ended, step_by, was_taken, AtContent, close_line, Closed}
 use Rattle.yaml_profile.proofs.ReadParts.{LineEnded, Gapped, ItemEnded, LeafRead}
+use Rattle.yaml_profile.proofs.WrittenTexts.{comment_char}
 
 -- no plain text may go on there
 abbrev pub is_steady : Waiting → Bool
@@ -46,10 +47,6 @@ pub record Commented (fs : List Frame) (w : Waiting) (at : ℕ) (xs : List ℕ) 
 comment_feed : (fs : List Frame) (w : Waiting) (at : ℕ) (rest : List ℕ) → taken fs (InComment w) at 10 rest ≡ Ok (front fs (AtLine (at + 1) w))
 unfolding taken in_comment
 comment_feed fs w at rest = refl
-
-comment_char : (fs : List Frame) (w : Waiting) (at c : ℕ) (rest : List ℕ) → (c == 10) ≡ false → taken fs (InComment w) at c rest ≡ Ok (front fs (InComment w))
-unfolding taken in_comment
-comment_char fs w at c rest e = rw e refl
 
 comment_end : (fs : List Frame) (w : Waiting) (at : ℕ) (cs : List ℕ) (v : Value) → ReadsOn (front fs (InComment w)) at (10 ∷ cs) v → all_ended true (10 ∷ cs) ≡ true → Commented fs w at (10 ∷ cs) v
 comment_end fs w at cs v h lined = record {

@@ -16,6 +16,7 @@ use Rattle.yaml_profile.specs.Written.{Ending, Bare, Noted, spell_ending, IsEndi
 use Rattle.yaml_profile.proofs.ReadSteps.{past, is_that, ReadsOn, OnFrom, step_on, step_by, with_returns, all_ended}
 use Rattle.yaml_profile.proofs.ReadGaps.{for_that}
 use Rattle.yaml_profile.proofs.ReadRows.{OnText}
+use Rattle.yaml_profile.proofs.WrittenScalars.{header_feed, header_hash, header_space}
 
 -- the line of the header ends
 pub record HeaderEnded (fs : List Frame) (b : BlockText) (spaced : Bool) (at : ℕ) (xs : List ℕ) (v : Value) : Type 0 where
@@ -65,18 +66,6 @@ remark_read (c ∷ cs) fs b at v e h = elim (cases_Bool (c == 10)) [
       = remark_read cs fs b (at + len_utf8 c) v a (step_by fs (InHeaderComment b) (Ok (front fs (InHeaderComment b))) at c cs v (remark_char fs b at c (with_returns cs) f) h) in
       record { text = c ∷ r.text; rest = r.rest; parts = ap (λ (zs : List ℕ). c ∷ zs) r.parts; inner = rw (f, r.inner) refl; on = r.on; ended = r.ended }
 ]
-
-header_space : (fs : List Frame) (b : BlockText) (g sp : Bool) (at : ℕ) (rest : List ℕ) → taken fs (InHeader b g sp) at 32 rest ≡ Ok (front fs (InHeader b g true))
-unfolding taken in_header
-header_space fs b g sp at rest = refl
-
-header_feed : (fs : List Frame) (b : BlockText) (g sp : Bool) (at : ℕ) (rest : List ℕ) → taken fs (InHeader b g sp) at 10 rest ≡ Ok (front fs (AtTextLine (at + 1) b))
-unfolding taken in_header
-header_feed fs b g sp at rest = refl
-
-header_hash : (fs : List Frame) (b : BlockText) (g : Bool) (at : ℕ) (rest : List ℕ) → taken fs (InHeader b g true) at 35 rest ≡ Ok (front fs (InHeaderComment b))
-unfolding taken in_header
-header_hash fs b g at rest = refl
 
 -- nothing else may stand there
 header_bad : (fs : List Frame) (b : BlockText) (g sp : Bool) (at c to : ℕ) (rest cs : List ℕ) (v : Value) → (c == 32) ≡ false → (c == 10) ≡ false → ((c == 35) && sp) ≡ false

@@ -1,8 +1,7 @@
 -- What stands between double quotes: what is found of it.
-use Rattle.std.proofs.Common.{◌≡◌, ℕ, zero, suc, ◌+◌, ◌-◌, ◌*◌, ◌%◌, ◌<◌, ◌≤◌, Bool, true, false, ◌||◌, ◌==◌, nat_lt, nat_le, List, [], ◌∷◌, ◌++◌, length, Result, Ok, ◌⊎◌, inl, inr, refl, sym, ap, subst, ◌∙◌, arith, append_assoc, length-append, lit<}
+use Rattle.std.proofs.Common.{◌≡◌, ℕ, zero, suc, ◌+◌, ◌-◌, ◌*◌, ◌<◌, ◌≤◌, Bool, true, false, ◌||◌, ◌==◌, nat_lt, nat_le, List, [], ◌∷◌, ◌++◌, length, Result, Ok, ◌⊎◌, inl, inr, refl, sym, ap, subst, ◌∙◌, arith, append_assoc, length-append, lit<}
 use Rattle.std.specs.List.{list_all, list_any}
 use Rattle.std.specs.Char.{len_utf8}
-use Rattle.std.proofs.Math.Nat.{mod-eq_of_lt}
 use Rattle.std.proofs.lemmas.Bool.{cases_Bool}
 use Rattle.std.proofs.lemmas.Bool.Decides.{nat_tests}
 use Rattle.edt_base.specs.YamlData.{Value}
@@ -19,6 +18,7 @@ use Rattle.yaml_profile.specs.Reading.{taken, ends}
 use Rattle.yaml_profile.specs.Written.{Inner, Itself, Escaped, ByTwo, ByFour, LineEnd, Joined, spell_inner, with_digit, is_hex, spell_inners, with_solid, with_inner, with_inners, is_inner_quoted, is_line_end}
 use Rattle.yaml_profile.proofs.ReadSteps.{past, past_append, never, with_returns, ReadsOn, OnFrom, all_ended, step_by}
 use Rattle.yaml_profile.proofs.ReadGaps.{for_that, still_within, reads_end}
+use Rattle.yaml_profile.proofs.WrittenQuotes.{first_digit, whole_number}
 
 -- the role behind what is between the quotes: a text with a line end in it is no key
 abbrev pub RoleBehind : Bool → Role → Role → Type 0
@@ -120,10 +120,6 @@ digit_below c h = grind (arith, nat_tests)
 hex_below : (d : ℕ) → d < 16 → nat_lt d 16 ≡ true
 hex_below d h = grind (arith, nat_tests)
 
--- nothing is lost
-whole_number : (n d : ℕ) → n < 4096 → d < 16 → (n * 16 + d) % 65536 ≡ n * 16 + d
-whole_number n d a b = mod-eq_of_lt (let l : n * 16 + d < 65536 = omega arith in l)
-
 -- one digit, before others
 record DigitRead (fs : List Frame) (t : Folding) (role : Role) (begun left n at : ℕ) (xs : List ℕ) (v : Value) : Type 0 where
   char : ℕ
@@ -196,9 +192,6 @@ last_read fs t role begun n at (c ∷ cs) v a lined h = elim (cases_Bool (digit 
   | inr e ↦ last_sound fs t role begun n at c cs v e lined
       (step_by fs (InDigits t role begun 1 n) (end_digits fs t role begun at (with_digit n c)) at c cs v (last_taken fs t role begun n at c (with_returns cs) a e) h)
 ]
-
-first_digit : (c : ℕ) → with_digit 0 c ≡ digit c
-first_digit c = let e : 0 * 16 + digit c ≡ digit c = omega arith in e
 
 four_bits : (d : ℕ) → d < 16 → d < 4096
 four_bits d h = omega arith

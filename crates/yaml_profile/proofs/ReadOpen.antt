@@ -17,12 +17,9 @@ use Rattle.yaml_profile.specs.Written.{spaces, Ending, Bare, Noted, spell_ending
 use Rattle.yaml_profile.proofs.ReadSteps.{past, is_that, with_returns, ReadsOn, OnFrom, all_ended, step_by, Taken, was_taken, word_ahead, mark_ahead, is_content, Begins, close_line, AtContent, Closed}
 use Rattle.yaml_profile.proofs.ReadParts.{LineEnded}
 use Rattle.yaml_profile.proofs.ReadGaps.{comment_read, Commented}
+use Rattle.yaml_profile.proofs.WrittenKeys.{and_false}
 
 -- ---- lines
-
-and_false : (b : Bool) → (b && false) ≡ false
-and_false true = refl
-and_false false = refl
 
 pub column_is : (s n : ℕ) → (s + n) - s ≡ n
 column_is s n = omega arith

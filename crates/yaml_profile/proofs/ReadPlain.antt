@@ -18,7 +18,9 @@ use Rattle.yaml_profile.specs.Written.{spaces, Ending, Bare, Noted, spell_ending
 use Rattle.yaml_profile.proofs.ReadSteps.{past, past_append, is_that, with_returns, ReadsOn, OnFrom, all_ended, Taken, was_taken, word_ahead}
 use Rattle.yaml_profile.proofs.ReadParts.{MayBegin, IsLeast, LineEnded, ItemEnded, FlowText, LeafRead, Keyed, ValueRead}
 use Rattle.yaml_profile.proofs.ReadGaps.{Commented, comment_read, leaf_of, item_over}
-use Rattle.yaml_profile.proofs.ReadFurther.{word_within, mark_within, stays_more, spaced_after, Stopped, line_read, end_waits, end_text, Goes, next_line, one_of, no_key, LastSpace, some_space, stays_before, chars_append, space_text}
+use Rattle.yaml_profile.proofs.ReadFurther.{word_within, mark_within, stays_more, Stopped, line_read, end_text, Goes, next_line, one_of, no_key, LastSpace, some_space, stays_before, space_text}
+use Rattle.yaml_profile.proofs.WrittenParagraphs.{chars_append, end_waits}
+use Rattle.yaml_profile.proofs.WrittenTexts.{spaced_after}
 
 -- ---- what stands behind a text
 

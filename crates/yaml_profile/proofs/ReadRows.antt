@@ -10,12 +10,13 @@ use Rattle.yaml_profile.specs.Answers.{no_text}
 use Rattle.yaml_profile.specs.Signs.{begins_with, begins_mark}
 use Rattle.yaml_profile.specs.BlockText.{BlockText, begin_line, go_on, first_line, blank_line, block_text}
 use Rattle.yaml_profile.specs.Fronts.{Frame, Whole, InComment, AtTextLine, AtBlankEnd, InTextLine, Front, front, is_flow, is_deeper, all_closed}
-use Rattle.yaml_profile.specs.Layout.{in_line, line_content, begin_comment, at_text_line, in_text_line, is_indented, is_text_line, begin_text, ends_blank_line, end_blank, end_block}
+use Rattle.yaml_profile.specs.Layout.{in_line, line_content, begin_comment, at_text_line, is_indented, is_text_line, begin_text, ends_blank_line, end_blank, end_block}
 use Rattle.yaml_profile.specs.Reading.{taken, ends, outside_flow}
 use Rattle.yaml_profile.specs.Written.{spaces, Noted, spell_ending, is_inner, is_mark, Note, spell_note, spell_gaps, AreGaps, go_all}
 use Rattle.yaml_profile.proofs.ReadParts.{Gapped}
 use Rattle.yaml_profile.proofs.ReadGaps.{reads_end, past_indent, Commented, comment_read, gaps_read, closed_whole}
 use Rattle.yaml_profile.proofs.ReadSteps.{past, past_append, not_true, is_that, with_returns, ReadsOn, OnFrom, step_by, Taken, was_taken, all_ended, no_feed_ahead, mark_ahead, is_content, Closed}
+use Rattle.yaml_profile.proofs.WrittenScalars.{text_char, text_end}
 
 -- the start of a line of a block scalar, or of what ends it
 abbrev pub OnText : List Frame → BlockText → (s : ℕ) → List ℕ → Value → Type 0
@@ -32,14 +33,6 @@ pub record TextRead (fs : List Frame) (b : BlockText) (at : ℕ) (xs : List ℕ)
   pub on : OnText fs (go_all b text) (past at (text ++ 10 ∷ [])) rest v
   pub ended : all_ended false rest ≡ true
   pub shorter : length rest < length xs
-
-text_char : (fs : List Frame) (b : BlockText) (at c : ℕ) (rest : List ℕ) → (c == 10) ≡ false → taken fs (InTextLine b) at c rest ≡ Ok (front fs (InTextLine (go_on b c)))
-unfolding taken in_text_line
-text_char fs b at c rest h = rw h refl
-
-text_end : (fs : List Frame) (b : BlockText) (at : ℕ) (rest : List ℕ) → taken fs (InTextLine b) at 10 rest ≡ Ok (front fs (AtTextLine (at + 1) b))
-unfolding taken in_text_line
-text_end fs b at rest = refl
 
 text_feed : (fs : List Frame) (b : BlockText) (at c : ℕ) (cs : List ℕ) (v : Value) → (c == 10) ≡ true → all_ended (not (c == 10)) cs ≡ true → ReadsOn (front fs (InTextLine b)) at (c ∷ cs) v → TextRead fs b at (c ∷ cs) v
 text_feed fs b at c cs v f e h =

@@ -1,12 +1,12 @@
 -- What is read of a block scalar, from its sign to the line that ends it.
-use Rattle.std.proofs.Common.{◌≡◌, ℕ, zero, suc, ◌+◌, ◌-◌, ◌<◌, ◌≤◌, Bool, true, false, not, ◌&&◌, ◌||◌, ◌==◌, nat_le, List, [], ◌∷◌, ◌++◌, length, Option, Some, None, inl, inr, if◌then◌else◌, refl, sym, ap, subst, ◌∙◌, arith, append_assoc, append-nil}
+use Rattle.std.proofs.Common.{◌≡◌, ℕ, zero, suc, ◌+◌, ◌<◌, ◌≤◌, Bool, true, false, not, ◌&&◌, ◌||◌, ◌==◌, nat_le, List, [], ◌∷◌, ◌++◌, length, Option, Some, None, inl, inr, if◌then◌else◌, refl, sym, ap, subst, ◌∙◌, arith, append_assoc, append-nil}
 use Rattle.std.specs.List.{list_all}
 use Rattle.std.specs.Char.{len_utf8}
 use Rattle.std.proofs.lemmas.Bool.{cases_Bool, cases_lt}
 use Rattle.std.proofs.lemmas.Bool.Decides.{nat_tests}
 use Rattle.edt_base.specs.YamlData.{Value, a_text}
 use Rattle.yaml_profile.specs.declared.block_text.Chomp.{Chomp}
-use Rattle.yaml_profile.specs.BlockText.{BlockText, no_lines, begin_line, go_on, empty_line, more_spaces, spaces_line, lead_in, first_line, blank_line, block_text}
+use Rattle.yaml_profile.specs.BlockText.{BlockText, no_lines, begin_line, go_on, empty_line, spaces_line, first_line, blank_line, block_text}
 use Rattle.yaml_profile.specs.Fronts.{Frame, InHeader, InTextLine, front, is_flow, is_deeper}
 use Rattle.yaml_profile.specs.Layout.{is_indented, is_text_line}
 use Rattle.yaml_profile.specs.Written.{spaces, spell_ending, is_inner, is_mark, TextLine, Line, Blank, Rows, Lines, Note, spell_text, spell_more, spell_note, spell_rows, spell_blanks, spell_header, spell_chomp, is_row, AreMore, AreRows, IsNote, go_all, with_more, with_rows, text_of, Scalars}
@@ -15,6 +15,7 @@ use Rattle.yaml_profile.proofs.ReadParts.{IsLeast, LeafRead}
 use Rattle.yaml_profile.proofs.ReadGaps.{for_that, still_within}
 use Rattle.yaml_profile.proofs.ReadHeaders.{HeaderRead, header_read}
 use Rattle.yaml_profile.proofs.ReadRows.{OnText, TextRead, text_read, RowRead, row_read, AsText, RowKind, row_kind, begun_text, EndsText, TextOver, over_end, over_line, line_parts, line_place}
+use Rattle.yaml_profile.proofs.WrittenScalars.{first_indent, known_text, more_indent, waiting}
 
 -- ---- no mark begins within a line of text
 
@@ -51,9 +52,6 @@ text_line_is column c text rest more f i p m =
 
 known_test : (o : Option ℕ) (k n : ℕ) (none : Bool) → o ≡ Some k → elim o [ None ↦ none | Some i ↦ nat_le i n ] ≡ nat_le k n
 known_test o k n none e = rw e refl
-
-known_text : (o : Option ℕ) (k : ℕ) (x y : BlockText) → o ≡ Some k → elim o [ None ↦ x | Some i ↦ y ] ≡ y
-known_text o k x y e = rw e refl
 
 -- the spaces before a character go up to the text's indentation at most
 column_low : (b : BlockText) (k n : ℕ) → b.indent ≡ Some k → ((m : ℕ) → m < n → is_indented b m ≡ false) → n ≤ k
@@ -173,25 +171,9 @@ more_read (suc fuel) (c ∷ cs) fs k b s v l f i e h =
 
 -- ---- blank lines, and the first line of text
 
-more_indent : (n : ℕ) (b : BlockText) → (more_spaces b n).indent ≡ b.indent
-more_indent zero b = refl
-more_indent (suc n) b = more_indent n (go_on b 32)
-
 blank_indent : (n : ℕ) (b : BlockText) → (spaces_line b n).indent ≡ b.indent
 blank_indent zero b = refl
 blank_indent (suc n) b = more_indent n (begin_line b 32)
-
-lead_indent : (ns : List ℕ) (k : ℕ) (b : BlockText) → (lead_in b k ns).indent ≡ b.indent
-lead_indent [] k b = refl
-lead_indent (n ∷ ns) k b = lead_indent ns k (spaces_line b (n - k)) ∙ blank_indent (n - k) b
-
-first_indent : (b : BlockText) (k c : ℕ) → (first_line b k c).indent ≡ Some k
-unfolding first_line
-first_indent b k c = lead_indent b.leading k (record b { indent = Some k; leading = [] })
-
--- a block scalar whose text has not begun
-abbrev pub waiting : Bool → Chomp → List ℕ → BlockText
-waiting folded chomp blanks = record (no_lines folded) { chomp = chomp; leading = blanks }
 
 -- a line that ends the text has a lower column than this
 abbrev limit_of : ℕ → Option Rows → ℕ

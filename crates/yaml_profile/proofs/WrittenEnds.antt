@@ -1,5 +1,5 @@
 -- Line ends may be written with a carriage return, and the last one may be missing: fronts differ in places alone.
-use Rattle.std.proofs.Common.{◌≡◌, ℕ, zero, suc, ◌+◌, ◌-◌, ◌<◌, Bool, true, false, not, ◌&&◌, ◌||◌, ◌==◌, List, [], ◌∷◌, Result, Ok, Err, if◌then◌else◌, refl, sym, ap, subst, ◌∙◌, arith, inl, inr}
+use Rattle.std.proofs.Common.{◌≡◌, ℕ, zero, suc, ◌+◌, ◌-◌, ◌<◌, Bool, true, false, not, ◌&&◌, ◌||◌, ◌==◌, List, [], ◌∷◌, Result, Ok, Err, if◌then◌else◌, refl, sym, subst, ◌∙◌, arith, inl, inr}
 use Rattle.std.specs.Char.{len_utf8}
 use Rattle.std.proofs.lemmas.Bool.{and_parts, cases_Bool}
 use Rattle.std.proofs.lemmas.Bool.Decides.{nat_tests}
@@ -10,35 +10,16 @@ use Rattle.yaml_profile.specs.declared.front.Role.TheVariants.{Value as ValueOnl
 use Rattle.yaml_profile.specs.Answers.{◌>>=◌, no_text}
 use Rattle.yaml_profile.specs.Signs.{begins_with, ends_word, begins_mark}
 use Rattle.yaml_profile.specs.Scalars.{scalar_of}
-use Rattle.yaml_profile.specs.declared.folding.Seam.{Seam}
-use Rattle.yaml_profile.specs.declared.folding.Seam.TheVariants.{Inside, Folds, Joins}
-use Rattle.yaml_profile.specs.Folding.{Folding, after_line, end_line, join_line}
+use Rattle.yaml_profile.specs.Folding.{Folding, end_line, join_line}
 use Rattle.yaml_profile.specs.BlockText.{BlockText, blank_line, block_text}
-use Rattle.yaml_profile.specs.Fronts.{Frame, Waiting, Fresh, Nothing, Going, Whole, Innermost, AtLine, AtValue, InPlain, InSingle, AtSecondQuote, InDouble, InEscape, InDigits, AfterQuoted, AfterValue, InComment, InMark, InHeader, InHeaderComment, AtTextLine, AtBlankEnd, InTextLine, Front, front, is_flow, all_closed, value_so_far}
+use Rattle.yaml_profile.specs.Fronts.{Frame, Going, Whole, Innermost, AtLine, AtValue, InPlain, InSingle, AtSecondQuote, InDouble, InEscape, InDigits, AfterQuoted, AfterValue, InComment, InMark, InHeader, InHeaderComment, AtTextLine, AtBlankEnd, InTextLine, Front, front, is_flow, all_closed, value_so_far}
 use Rattle.yaml_profile.specs.Pieces.{is_key_only, in_after_value, in_at_value, in_plain, in_single, at_second_quote, in_double, in_escape, in_digits, in_after_quoted}
 use Rattle.yaml_profile.specs.Layout.{in_line, in_comment, in_header, in_header_comment, at_text_line, in_text_line, one_line_more}
 use Rattle.yaml_profile.specs.Reading.{taken, step, walk, ends, outside_flow, last_line}
 use Rattle.yaml_profile.specs.Written.{end_of_line, with_ends, ends_begun, is_clear, word_ends, is_mark}
 use Rattle.yaml_profile.proofs.ReadSteps.{past, not_true, is_that, with_returns, line_walk, ReadsOn, OnFrom, step_on, no_second, no_third, feed_is_no_second, no_feed_ahead, word_ahead, first_ahead, mark_ahead}
 use Rattle.yaml_profile.proofs.WrittenPlaces.{Alike, Fits, Begun, Same, Ahead, on_column, taken_same, feed_same, returned, return_same}
-
--- a line end adds nothing to the text
-line_seam : (s : Seam) (t : Folding) → (after_line s t).text ≡ t.text
-line_seam Inside t = refl
-line_seam Folds t = refl
-line_seam Joins t = refl
-
-end_line_text : (t : Folding) → (end_line t).text ≡ t.text
-end_line_text t = line_seam t.seam t
-
-pub going_is : (t : Folding) → scalar_of (end_line t).text ≡ scalar_of t.text
-going_is t = ap scalar_of (end_line_text t)
-
-pub more_is : (w : Waiting) → value_so_far (one_line_more w) ≡ value_so_far w
-more_is Fresh = refl
-more_is Nothing = refl
-more_is (Going t) = going_is t
-more_is (Whole v) = refl
+use Rattle.yaml_profile.proofs.WrittenLines.{going_is, more_is}
 
 -- ---- the end of the file
 

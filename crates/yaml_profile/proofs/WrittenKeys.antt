@@ -16,7 +16,7 @@ use Rattle.yaml_profile.specs.Layout.{in_line, line_content, block_line, value_o
 use Rattle.yaml_profile.specs.Reading.{taken}
 use Rattle.yaml_profile.specs.Written.{spaces, word_ends, is_mark, may_begin, IsPlain, with_chars, spell_inners, spell_singles, Double, Single, spell_scalar, Key, PlainKey, DoubleKey, SingleKey, spell_key, key_text, IsKey, double_text, is_line_end, single_text, is_feed}
 use Rattle.yaml_profile.proofs.WrittenTexts.{return_ahead, goes_by, spaced_by, spaces_quoted, spaced_after, After, next_word}
-use Rattle.yaml_profile.proofs.ReadSteps.{is_that, line_walk, never, not_true, past, past_append, with_returns}
+use Rattle.yaml_profile.proofs.ReadSteps.{is_that, line_walk, never, not_true, past, past_append, with_returns, no_second}
 use Rattle.yaml_profile.proofs.WrittenQuotes.{MayEnd, same_then}
 use Rattle.yaml_profile.proofs.WrittenLines.{BeginFacts, begin_facts, begin_run, role_of, line_goes, double_goes, singled_goes}
 
@@ -165,15 +165,6 @@ sign_starts place flow c rest a b d e f g h i = record {
   tab = λ n q. d;
   mark = λ n q r. rw (no_mark c rest g h) (and_false (n == 0));
 }
-
-no_second : (c d : ℕ) → (d == 45) ≡ false → (d == 46) ≡ false → (((c == 45) || (c == 46)) && (d == c)) ≡ false
-no_second c d a b = elim (cases_Bool (c == 45)) [
-  | inl e ↦ let q : (d == c) ≡ false = subst (λ (k : ℕ). (d == k) ≡ false) (is_that c 45 e) a in rw (e, q) refl
-  | inr e ↦ elim (cases_Bool (c == 46)) [
-    | inl g ↦ let q : (d == c) ≡ false = subst (λ (k : ℕ). (d == k) ≡ false) (is_that c 46 g) b in rw (e, g, q) refl
-    | inr g ↦ rw (e, g) refl
-  ]
-]
 
 pub no_second_of : (c d e : ℕ) (more : List ℕ) → (d == 45) ≡ false → (d == 46) ≡ false → begins_mark c (d ∷ e ∷ more) ≡ false
 no_second_of c d e more a b = rw (no_second c d a b) refl

@@ -25,11 +25,11 @@ chars_append (x ∷ xs) ys t = chars_append xs ys (with_chars t (x ∷ []))
 
 -- ---- a text that waits for a further line
 
-abbrev is_inside : Seam → Bool
+abbrev pub is_inside : Seam → Bool
 is_inside Inside = true
 is_inside _ = false
 
-blank_waits : (m : Seam) (t : Folding) (c : ℕ) → is_inside m ≡ false → after_blank m t c ≡ t
+pub blank_waits : (m : Seam) (t : Folding) (c : ℕ) → is_inside m ≡ false → after_blank m t c ≡ t
 blank_waits Inside t c h = cc
 blank_waits Folds t c h = refl
 blank_waits Joins t c h = refl
@@ -38,12 +38,12 @@ spaces_wait : (n : ℕ) (t : Folding) → is_inside t.seam ≡ false → with_ch
 spaces_wait zero t h = refl
 spaces_wait (suc n) t h = ap (λ (u : Folding). with_chars u (spaces n)) (blank_waits t.seam t 32 h) ∙ spaces_wait n t h
 
-line_waits : (m : Seam) (t : Folding) → t.seam ≡ m → is_inside (after_line m t).seam ≡ false
+pub line_waits : (m : Seam) (t : Folding) → t.seam ≡ m → is_inside (after_line m t).seam ≡ false
 line_waits Inside t e = refl
 line_waits Folds t e = rw e refl
 line_waits Joins t e = rw e refl
 
-end_waits : (t : Folding) → is_inside (end_line t).seam ≡ false
+pub end_waits : (t : Folding) → is_inside (end_line t).seam ≡ false
 end_waits t = line_waits t.seam t refl
 
 blank_feed : (fs : List Frame) (t : Folding) (s at : ℕ) (rest : List ℕ) → taken fs (AtLine s (Going t)) at 10 rest ≡ Ok (front fs (AtLine (at + 1) (Going (end_line t))))

@@ -78,7 +78,7 @@ unfolding taken in_escape
 escape_u fs t r begun at rest = refl
 
 -- nothing is lost
-whole_number : (n d : ℕ) → n < 4096 → d < 16 → (n * 16 + d) % 65536 ≡ n * 16 + d
+pub whole_number : (n d : ℕ) → n < 4096 → d < 16 → (n * 16 + d) % 65536 ≡ n * 16 + d
 whole_number n d a b = mod-eq_of_lt (let l : n * 16 + d < 65536 = omega arith in l)
 
 digit_taken : (fs : List Frame) (t : Folding) (r : Role) (begun left next n m at c : ℕ) (rest : List ℕ) → nat_le left 1 ≡ false → left - 1 ≡ next → n < 4096 → digit c < 16 → with_digit n c ≡ m
@@ -99,7 +99,7 @@ digit_goes fs t r begun left next n m at c rest l k a h e =
 zero_more : (d : ℕ) → 0 * 16 + d ≡ d
 zero_more d = omega arith
 
-first_digit : (c : ℕ) → with_digit 0 c ≡ digit c
+pub first_digit : (c : ℕ) → with_digit 0 c ≡ digit c
 first_digit c = zero_more (digit c)
 
 last_goes : (fs : List Frame) (t : Folding) (r : Role) (begun n at c : ℕ) (rest : List ℕ) → n < 4096 → is_hex c ≡ true → is_surrogate (with_digit n c) ≡ false

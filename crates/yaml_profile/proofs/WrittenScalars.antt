@@ -60,7 +60,7 @@ header_goes false Strip fs role at rest v f = begun_value fs role (front fs (InH
 header_goes false Keep fs role at rest v f = begun_value fs role (front fs (InHeader (no_lines false) false false)) at 124 (43 ∷ rest) (bar_begins fs role at (with_returns (43 ∷ rest)) v f)
     ∙ goes fs (InHeader (no_lines false) false false) (front fs (InHeader (begun false Keep) true false)) (at + 1) 43 rest (plus_sign fs (no_lines false) (at + 1) (with_returns rest))
 
-header_space : (fs : List Frame) (b : BlockText) (g sp : Bool) (at : ℕ) (rest : List ℕ) → taken fs (InHeader b g sp) at 32 rest ≡ Ok (front fs (InHeader b g true))
+pub header_space : (fs : List Frame) (b : BlockText) (g sp : Bool) (at : ℕ) (rest : List ℕ) → taken fs (InHeader b g sp) at 32 rest ≡ Ok (front fs (InHeader b g true))
 unfolding taken in_header
 header_space fs b g sp at rest = refl
 
@@ -71,11 +71,11 @@ header_spaces (suc n) fs b g sp at rest =
     goes fs (InHeader b g sp) (front fs (InHeader b g true)) at 32 (spaces n ++ rest) (header_space fs b g sp at (with_returns (spaces n ++ rest)))
     ∙ (header_spaces n fs b g true (at + 1) rest ∙ ap (λ (v : Bool). line_walk (front fs (InHeader b g v)) (past (at + 1) (spaces n)) rest) (still n))
 
-header_feed : (fs : List Frame) (b : BlockText) (g sp : Bool) (at : ℕ) (rest : List ℕ) → taken fs (InHeader b g sp) at 10 rest ≡ Ok (front fs (AtTextLine (at + 1) b))
+pub header_feed : (fs : List Frame) (b : BlockText) (g sp : Bool) (at : ℕ) (rest : List ℕ) → taken fs (InHeader b g sp) at 10 rest ≡ Ok (front fs (AtTextLine (at + 1) b))
 unfolding taken in_header
 header_feed fs b g sp at rest = refl
 
-header_hash : (fs : List Frame) (b : BlockText) (g : Bool) (at : ℕ) (rest : List ℕ) → taken fs (InHeader b g true) at 35 rest ≡ Ok (front fs (InHeaderComment b))
+pub header_hash : (fs : List Frame) (b : BlockText) (g : Bool) (at : ℕ) (rest : List ℕ) → taken fs (InHeader b g true) at 35 rest ≡ Ok (front fs (InHeaderComment b))
 unfolding taken in_header
 header_hash fs b g at rest = refl
 
@@ -129,11 +129,11 @@ text_spaces (suc n) j fs b s at rest e h =
     goes fs (AtTextLine s b) (front fs (AtTextLine s b)) at 32 (spaces n ++ rest) (text_space fs b s at j (with_returns (spaces n ++ rest)) (omega arith) (h.each j (omega arith)))
     ∙ text_spaces n (j + 1) fs b s (at + 1) rest (omega arith) (record { each = λ i l. h.each i (omega arith) })
 
-text_char : (fs : List Frame) (b : BlockText) (at c : ℕ) (rest : List ℕ) → (c == 10) ≡ false → taken fs (InTextLine b) at c rest ≡ Ok (front fs (InTextLine (go_on b c)))
+pub text_char : (fs : List Frame) (b : BlockText) (at c : ℕ) (rest : List ℕ) → (c == 10) ≡ false → taken fs (InTextLine b) at c rest ≡ Ok (front fs (InTextLine (go_on b c)))
 unfolding taken in_text_line
 text_char fs b at c rest h = rw h refl
 
-text_end : (fs : List Frame) (b : BlockText) (at : ℕ) (rest : List ℕ) → taken fs (InTextLine b) at 10 rest ≡ Ok (front fs (AtTextLine (at + 1) b))
+pub text_end : (fs : List Frame) (b : BlockText) (at : ℕ) (rest : List ℕ) → taken fs (InTextLine b) at 10 rest ≡ Ok (front fs (AtTextLine (at + 1) b))
 unfolding taken in_text_line
 text_end fs b at rest = refl
 
@@ -168,7 +168,7 @@ known_test o k none e = rw e (le_self k)
 open_test : (o : Option ℕ) (k : ℕ) (none : Bool) → o ≡ None → elim o [ None ↦ none | Some i ↦ nat_le i k ] ≡ none
 open_test o k none e = rw e refl
 
-known_text : (o : Option ℕ) (k : ℕ) (x y : BlockText) → o ≡ Some k → elim o [ None ↦ x | Some i ↦ y ] ≡ y
+pub known_text : (o : Option ℕ) (k : ℕ) (x y : BlockText) → o ≡ Some k → elim o [ None ↦ x | Some i ↦ y ] ≡ y
 known_text o k x y e = rw e refl
 
 open_text : (o : Option ℕ) (x y : BlockText) → o ≡ None → elim o [ None ↦ x | Some i ↦ y ] ≡ x
@@ -277,7 +277,7 @@ more_go (Blank n ∷ ls) fs b s k rest e a =
 
 -- ---- blank lines before the text
 
-abbrev waiting : Bool → Chomp → List ℕ → BlockText
+abbrev pub waiting : Bool → Chomp → List ℕ → BlockText
 waiting folded chomp xs = record (no_lines folded) { chomp = chomp; leading = xs }
 
 leading_feed : (folded : Bool) (chomp : Chomp) (xs : List ℕ) (fs : List Frame) (s at n : ℕ) (rest : List ℕ) → at - s ≡ n
@@ -305,7 +305,7 @@ leading_go (n ∷ ns) folded chomp xs fs s rest =
 
 -- ---- the whole
 
-more_indent : (n : ℕ) (b : BlockText) → (more_spaces b n).indent ≡ b.indent
+pub more_indent : (n : ℕ) (b : BlockText) → (more_spaces b n).indent ≡ b.indent
 more_indent zero b = refl
 more_indent (suc n) b = more_indent n (go_on b 32)
 
@@ -313,7 +313,7 @@ blank_indent : (n : ℕ) (b : BlockText) → (blank_text b n).indent ≡ b.inden
 blank_indent zero b = refl
 blank_indent (suc n) b = more_indent n (begin_line b 32)
 
-lead_indent : (ns : List ℕ) (k : ℕ) (b : BlockText) → (lead_in b k ns).indent ≡ b.indent
+pub lead_indent : (ns : List ℕ) (k : ℕ) (b : BlockText) → (lead_in b k ns).indent ≡ b.indent
 lead_indent [] k b = refl
 lead_indent (n ∷ ns) k b = lead_indent ns k (blank_text b (n - k)) ∙ blank_indent (n - k) b
 

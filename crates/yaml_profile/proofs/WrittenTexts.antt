@@ -79,7 +79,7 @@ spaces_quoted (suc n) fs x r b sp at rest =
 
 -- ---- comments
 
-comment_char : (fs : List Frame) (w : Waiting) (at c : ℕ) (rest : List ℕ) → (c == 10) ≡ false → taken fs (InComment w) at c rest ≡ Ok (front fs (InComment w))
+pub comment_char : (fs : List Frame) (w : Waiting) (at c : ℕ) (rest : List ℕ) → (c == 10) ≡ false → taken fs (InComment w) at c rest ≡ Ok (front fs (InComment w))
 unfolding taken in_comment
 comment_char fs w at c rest h = rw h refl
 
@@ -145,7 +145,7 @@ next_word (d ∷ ds) rest ended w = elim (cases_Bool (d == 10)) [
   | inr e ↦ rw (e, no_feed_ahead (ds ++ rest)) (elim (cases_Bool (d == 13)) [ inl g ↦ rw g (rw e refl) | inr g ↦ rw g (rw e refl) ])
 ]
 
-swapped : (a b : Bool) → (a && b) ≡ false → (b && a) ≡ false
+pub swapped : (a b : Bool) → (a && b) ≡ false → (b && a) ≡ false
 swapped true true h = cc
 swapped true false h = refl
 swapped false true h = refl
