@@ -1,10 +1,10 @@
--- The three texts of a name, cut from its parts.
+-- The four texts of a name, cut from its parts.
 use Rattle.std.proofs.Common.{◌≡◌, ℕ, Bool, true, false, not, List, [], ◌∷◌, ◌++◌, ◌&&◌, ◌||◌, refl, sym, ap, ◌∙◌, arith, inl, inr, codes, take, drop, append_assoc, nat_eq, if◌then◌else◌}
 use Rattle.std.specs.Str.{bytes_eq}
 use Rattle.std.proofs.lemmas.Bool.{cases_Bool, and_parts, and_from, not-true}
 use Rattle.edt_base.specs.Marks.{form_of}
 use Rattle.dt_names.specs.Facts.{name_first, name_pieces, names_pieces, id_pieces}
-use Rattle.dt_names.specs.Keys.{NameTexts, is_of_prop}
+use Rattle.dt_names.specs.Keys.{NameTexts, behind_prop, is_of_prop}
 use Rattle.dt_names.specs.Names.{NamePart, marker, word, behind_marker, name_parts}
 use Rattle.dt_names.specs.Pieces.{PieceData, lit, form, str, num, spell, spells}
 use Rattle.dt_names.proofs.Lengths.{none_spelled, one_spelled}
@@ -71,19 +71,24 @@ is_of_tree (marker m ∷ ps) =
     not (bytes_eq (take 4 m) (codes "DT_N"))
     || (bytes_eq m (codes "DT_N_ALIAS_") || (bytes_eq m (codes "DT_N_NODELABEL_") || bytes_eq m (codes "DT_N_INST_")))
 
+-- the parts behind a property
+abbrev pub behind_property : List NamePart → List NamePart
+behind_property ps = if begins_with (codes "_P_") ps then drop 2 ps else ps
+
 -- an id, and the parts behind it
 abbrev pub rest_texts : List ℕ → List NamePart → NameTexts
 rest_texts id ps = record {
   base = id;
   prop = parts_text (if begins_with (codes "_P_") ps then take 2 ps else []);
-  last = parts_text (if begins_with (codes "_P_") ps then drop 2 ps else ps);
+  entry = parts_text (take 2 (behind_property ps));
+  last = parts_text (drop 2 (behind_property ps));
 }
 
 abbrev pub node_texts : List NamePart → NameTexts
 node_texts ps = rest_texts (codes "DT_N" ++ names_text ps) (behind_names ps)
 
 abbrev pub parts_texts : List NamePart → NameTexts
-parts_texts ps = if is_of_tree ps then record { base = []; prop = []; last = parts_text ps } else node_texts (behind_root ps)
+parts_texts ps = if is_of_tree ps then record { base = []; prop = []; entry = parts_text (take 2 ps); last = parts_text (drop 2 ps) } else node_texts (behind_root ps)
 
 -- ---- a name's texts are those of its parts
 
@@ -92,18 +97,37 @@ abbrev pub texts_in : List PieceData → List PieceData → NameTexts
 texts_in base rest = record {
   base = spells base;
   prop = spells (if is_of_prop rest then take 2 rest else []);
-  last = spells (if is_of_prop rest then drop 2 rest else rest);
+  entry = spells (take 2 (behind_prop rest));
+  last = spells (drop 2 (behind_prop rest));
 }
 
 -- a name is told by its spelling, and its parts give its texts
 abbrev pub IsCut : List PieceData → List PieceData → Type 0
 IsCut base rest = IsTold (base ++ rest) × (parts_texts (name_parts (base ++ rest)) ≡ texts_in base rest)
 
-abbrev three_texts : (base prop last : List ℕ) → NameTexts
-three_texts base prop last = record { base = base; prop = prop; last = last }
+abbrev four_texts : (base prop entry last : List ℕ) → NameTexts
+four_texts base prop entry last = record { base = base; prop = prop; entry = entry; last = last }
 
-same_texts : (a b c x y z : List ℕ) → a ≡ x → b ≡ y → c ≡ z → three_texts a b c ≡ three_texts x y z
-same_texts a b c x y z p q r = ap (λ t. three_texts t b c) p ∙ ap (λ t. three_texts x t c) q ∙ ap (three_texts x y) r
+same_texts : (a b c d x y z w : List ℕ) → a ≡ x → b ≡ y → c ≡ z → d ≡ w → four_texts a b c d ≡ four_texts x y z w
+same_texts a b c d x y z w p q r s = ap (λ t. four_texts t b c d) p ∙ ap (λ t. four_texts x t c d) q ∙ ap (λ t. four_texts x y t d) r ∙ ap (four_texts x y z) s
+
+-- the first two pieces are a marker and a word or number, or the pieces are one marker or two
+abbrev pub is_paired : List PieceData → Bool
+is_paired [] = true
+is_paired (lit t ∷ []) = true
+is_paired (lit t ∷ lit u ∷ []) = true
+is_paired (lit t ∷ form w ∷ ps) = true
+is_paired (lit t ∷ num n ∷ ps) = true
+is_paired _ = false
+
+-- then two pieces are spelled as two parts, and so are the others
+pair_cut : (ps : List PieceData) → is_paired ps ≡ true → (parts_text (take 2 (name_parts ps)) ≡ spells (take 2 ps)) × (parts_text (drop 2 (name_parts ps)) ≡ spells (drop 2 ps))
+pair_cut [] h = (sym none_spelled, sym none_spelled)
+pair_cut (lit t ∷ []) h = (parts_spelled (lit t ∷ []), sym none_spelled)
+pair_cut (lit t ∷ lit u ∷ []) h = (parts_spelled (lit t ∷ lit u ∷ []), sym none_spelled)
+pair_cut (lit t ∷ form w ∷ ps) h = (parts_spelled (lit t ∷ form w ∷ []), parts_spelled ps)
+pair_cut (lit t ∷ num n ∷ ps) h = (parts_spelled (lit t ∷ num n ∷ []), parts_spelled ps)
+pair_cut _ h = absurd (cc)
 
 no_instance : (ps : List NamePart) → is_of_tree ps ≡ false → is_instance ps ≡ false
 no_instance [] h = refl
@@ -120,12 +144,14 @@ no_instance (marker m ∷ word w ∷ p ∷ ps) h = refl
 
 -- a name of the tree, as its parts tell, and of no property
 abbrev pub is_own : List PieceData → Bool
-is_own ps = is_of_tree (name_parts ps) && not (is_of_prop ps)
+is_own ps = is_of_tree (name_parts ps) && (not (is_of_prop ps) && is_paired ps)
 
 pub cut_tree : (t : List ℕ) (ps : List PieceData) → is_own (lit t ∷ ps) ≡ true → IsTold (lit t ∷ ps) → IsCut [] (lit t ∷ ps)
 cut_tree t ps h told =
-    let p : (is_of_tree (name_parts (lit t ∷ ps)) ≡ true) × (not (is_of_prop (lit t ∷ ps)) ≡ true) = and_parts _ _ h in
-    (told, rw (p.0, not-true _ p.1) (same_texts _ _ _ _ _ _ (sym none_spelled) (sym none_spelled) (parts_spelled (lit t ∷ ps))))
+    let p : (is_of_tree (name_parts (lit t ∷ ps)) ≡ true) × ((not (is_of_prop (lit t ∷ ps)) && is_paired (lit t ∷ ps)) ≡ true) = and_parts _ _ h in
+    let q : (not (is_of_prop (lit t ∷ ps)) ≡ true) × (is_paired (lit t ∷ ps) ≡ true) = and_parts _ _ p.1 in
+    let c = pair_cut (lit t ∷ ps) q.1 in
+    (told, rw (p.0, not-true _ q.0) (same_texts _ _ _ _ _ _ _ _ (sym none_spelled) (sym none_spelled) c.0 c.1))
 
 -- ---- names of nodes
 
@@ -141,11 +167,15 @@ lit_marked _ h = absurd (cc)
 abbrev pub follows_root : List PieceData → Bool
 follows_root ps = is_good behind ps && (begins_lit ps && not (is_of_tree (behind_marker (codes "DT_N") (name_parts ps))))
 
+-- the parts behind an id tell whether it is a property that comes, and what tells an entry
+abbrev pub is_split : List PieceData → Bool
+is_split after = (not (begins_with (codes "_P_") (name_parts after)) || is_of_prop after) && is_paired (behind_prop after)
+
 -- what may follow an id
 abbrev pub follows_id : List PieceData → Bool
 follows_id after =
     follows_root after
-    && (not (begins_with (codes "_S_") (name_parts after)) && (not (begins_with (codes "_P_") (name_parts after)) || is_of_prop after))
+    && (not (begins_with (codes "_S_") (name_parts after)) && is_split after)
 
 name_follows : (w : List ℕ) (rest : List PieceData) → follows_root rest ≡ true → follows_root (name_pieces w ++ rest) ≡ true
 name_follows [] rest h = h
@@ -199,16 +229,23 @@ prop_cut : (after : List PieceData) → is_of_prop after ≡ true
 prop_cut (lit m ∷ form w ∷ ps) h = (h, refl, refl)
 prop_cut _ h = absurd (cc)
 
-rest_cut : (base after : List PieceData) → (not (begins_with (codes "_P_") (name_parts after)) || is_of_prop after) ≡ true
-    → rest_texts (spells base) (name_parts after) ≡ texts_in base after
-rest_cut base after h = elim (cases_Bool (is_of_prop after)) [
-  | inl e ↦
-      let p = prop_cut after e in
-      rw (e, p.0) (same_texts _ _ _ _ _ _ refl (ap parts_text p.1 ∙ parts_spelled (take 2 after)) (ap parts_text p.2 ∙ parts_spelled (drop 2 after)))
-  | inr e ↦
-      let n : begins_with (codes "_P_") (name_parts after) ≡ false = grind (arith, h, e) in
-      rw (e, n) (same_texts _ _ _ _ _ _ refl (sym none_spelled) (parts_spelled after))
-]
+rest_cut : (base after : List PieceData) → is_split after ≡ true → rest_texts (spells base) (name_parts after) ≡ texts_in base after
+rest_cut base after h =
+    let s : ((not (begins_with (codes "_P_") (name_parts after)) || is_of_prop after) ≡ true) × (is_paired (behind_prop after) ≡ true) = and_parts _ _ h in
+    let told = s.0 in
+    elim (cases_Bool (is_of_prop after)) [
+      | inl e ↦
+          let p = prop_cut after e in
+          let paired : is_paired (drop 2 after) ≡ true = rw e at s.1 in
+          let c = pair_cut (drop 2 after) paired in
+          rw (e, p.0) (same_texts _ _ _ _ _ _ _ _ refl (ap parts_text p.1 ∙ parts_spelled (take 2 after))
+          (ap (λ ps. parts_text (take 2 ps)) p.2 ∙ c.0) (ap (λ ps. parts_text (drop 2 ps)) p.2 ∙ c.1))
+      | inr e ↦
+          let n : begins_with (codes "_P_") (name_parts after) ≡ false = grind (arith, told, e) in
+          let paired : is_paired after ≡ true = rw e at s.1 in
+          let c = pair_cut after paired in
+          rw (e, n) (same_texts _ _ _ _ _ _ _ _ refl (sym none_spelled) c.0 c.1)
+    ]
 
 or_none : (x : Bool) → (x || false) ≡ x
 or_none true = refl
@@ -224,8 +261,8 @@ good_within (num n ∷ ps) h = absurd (cc)
 
 pub cut_node : (path : List ℕ) (after : List PieceData) → follows_id after ≡ true → IsCut (id_pieces path) after
 cut_node path after h =
-    let p : (follows_root after ≡ true) × ((not (begins_with (codes "_S_") (name_parts after)) && (not (begins_with (codes "_P_") (name_parts after)) || is_of_prop after)) ≡ true) = and_parts _ _ h in
-    let q : (not (begins_with (codes "_S_") (name_parts after)) ≡ true) × ((not (begins_with (codes "_P_") (name_parts after)) || is_of_prop after) ≡ true) = and_parts _ _ p.1 in
+    let p : (follows_root after ≡ true) × ((not (begins_with (codes "_S_") (name_parts after)) && is_split after) ≡ true) = and_parts _ _ h in
+    let q : (not (begins_with (codes "_S_") (name_parts after)) ≡ true) × (is_split after ≡ true) = and_parts _ _ p.1 in
     let whole = names_pieces path ++ after in
     let root : (is_good behind whole ≡ true) × ((begins_lit whole && not (is_of_tree (behind_marker (codes "DT_N") (name_parts whole)))) ≡ true) = and_parts _ _ (names_follow path after p.0) in
     let first : (begins_lit whole ≡ true) × (not (is_of_tree (behind_marker (codes "DT_N") (name_parts whole))) ≡ true) = and_parts _ _ root.1 in

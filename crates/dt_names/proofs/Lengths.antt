@@ -29,14 +29,6 @@ nothing_sized = refl
 pub size_front : (a b : List PieceData) → min (spelled_size a + spelled_size b) (2 ^ 64 - 1) ≡ spelled_size (a ++ b)
 size_front a b = omega (arith, ap length (spells-append a b), length-append (spells a) (spells b))
 
--- a word more before what is counted
-pub word_more : (n m : ℕ) (a b : List PieceData) → m ≡ spelled_size b → n ≡ min (spelled_size a + m) (2 ^ 64 - 1) → n ≡ spelled_size (a ++ b)
-word_more n m a b is e = e ∙ (ap (λ k. min (spelled_size a + k) (2 ^ 64 - 1)) is ∙ size_front a b)
-
--- none before it
-pub none_more : (m : ℕ) (a : List PieceData) → m < 2 ^ 64 → a ≡ [] → m ≡ min (spelled_size a + m) (2 ^ 64 - 1)
-none_more m a fits none = omega (arith, ap spelled_size none, nothing_sized)
-
 -- pieces more behind what is counted
 pub count_more : (old n new whole : ℕ) (front rest both : List PieceData) → both ≡ front ++ rest → n ≡ spelled_size front → new ≡ min (old + n) (2 ^ 64 - 1)
     → min (old + spelled_size both) (2 ^ 64 - 1) ≡ whole → (new < 2 ^ 64) × (min (new + spelled_size rest) (2 ^ 64 - 1) ≡ whole)
@@ -47,14 +39,9 @@ count_more old n new whole front rest both parts is sum before =
 pub counted : (old whole : ℕ) (rest : List PieceData) → rest ≡ [] → old < 2 ^ 64 → min (old + spelled_size rest) (2 ^ 64 - 1) ≡ whole → old ≡ whole
 counted old whole rest none fits all = omega (arith, ap spelled_size none, nothing_sized)
 
--- three parts
-pub three_parts : (x y z xy xyz : ℕ) (a b c : List PieceData) → x ≡ spelled_size a → y ≡ spelled_size b → z ≡ spelled_size c
-    → xy ≡ min (x + y) (2 ^ 64 - 1) → xyz ≡ min (xy + z) (2 ^ 64 - 1) → xyz ≡ spelled_size (a ++ (b ++ c))
-three_parts x y z xy xyz a b c xs ys zs one two = omega (arith, size_front b c, size_front a (b ++ c))
-
--- the last word, with nothing behind it
-pub word_last : (n : ℕ) (a : List PieceData) → n ≡ min (spelled_size a + 0) (2 ^ 64 - 1) → n ≡ spelled_size a
-word_last n a e = omega arith
+-- two parts
+pub two_parts : (x y xy : ℕ) (a b : List PieceData) → x ≡ spelled_size a → y ≡ spelled_size b → xy ≡ min (x + y) (2 ^ 64 - 1) → xy ≡ spelled_size (a ++ b)
+two_parts x y xy a b xs ys sum = omega (arith, size_front a b)
 
 -- a piece alone
 pub piece_sized : (n : ℕ) (p : PieceData) → n ≡ min (length (spell p)) (2 ^ 64 - 1) → n ≡ spelled_size (p ∷ [])

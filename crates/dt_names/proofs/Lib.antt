@@ -2,6 +2,7 @@ pub mod Alike
 pub mod Based
 pub mod Cut
 pub mod Drops
+pub mod Going
 pub mod Lengths
 pub mod Meets
 pub mod Numbers

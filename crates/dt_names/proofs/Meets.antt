@@ -12,7 +12,7 @@ use Rattle.dt_names.proofs.Scan.{any_some, get_within, key_same}
 
 -- keys are compared number by number
 abbrev pub key_eq : Key → Key → Bool
-key_eq k m = nat_eq k.base m.base && (nat_eq k.prop m.prop && nat_eq k.last m.last)
+key_eq k m = nat_eq k.base m.base && (nat_eq k.prop m.prop && (nat_eq k.entry m.entry && nat_eq k.last m.last))
 
 nat_told : (a b : ℕ) → nat_eq a b ≡ true → a ≡ b
 nat_told a b h = grind (arith, h)
@@ -21,13 +21,14 @@ nat_itself : (a : ℕ) → nat_eq a a ≡ true
 nat_itself a = grind arith
 
 key_refl : (k : Key) → key_eq k k ≡ true
-key_refl k = rw (nat_itself k.base, nat_itself k.prop, nat_itself k.last) refl
+key_refl k = rw (nat_itself k.base, nat_itself k.prop, nat_itself k.entry, nat_itself k.last) refl
 
 key_told : (k m : Key) → key_eq k m ≡ true → k ≡ m
 key_told k m h =
-    let p : (nat_eq k.base m.base ≡ true) × ((nat_eq k.prop m.prop && nat_eq k.last m.last) ≡ true) = and_parts _ _ h in
-    let q : (nat_eq k.prop m.prop ≡ true) × (nat_eq k.last m.last ≡ true) = and_parts _ _ p.1 in
-    key_same k m (nat_told k.base m.base p.0) (nat_told k.prop m.prop q.0) (nat_told k.last m.last q.1)
+    let p : (nat_eq k.base m.base ≡ true) × ((nat_eq k.prop m.prop && (nat_eq k.entry m.entry && nat_eq k.last m.last)) ≡ true) = and_parts _ _ h in
+    let q : (nat_eq k.prop m.prop ≡ true) × ((nat_eq k.entry m.entry && nat_eq k.last m.last) ≡ true) = and_parts _ _ p.1 in
+    let r : (nat_eq k.entry m.entry ≡ true) × (nat_eq k.last m.last ≡ true) = and_parts _ _ q.1 in
+    key_same k m (nat_told k.base m.base p.0) (nat_told k.prop m.prop q.0) (nat_told k.entry m.entry r.0) (nat_told k.last m.last r.1)
 
 pub key_new : (keys : List Key) (k : Key) (added : Bool) → added ≡ not (list_any (key_eq k) keys) → added ≡ true → IsNew keys k
 key_new keys k added a t i h =

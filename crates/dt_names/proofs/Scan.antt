@@ -136,20 +136,20 @@ push_length xs y = length-append xs (y ∷ [])
 
 -- ---- keys
 
-pub key_same : (k m : Key) → k.base ≡ m.base → k.prop ≡ m.prop → k.last ≡ m.last → k ≡ m
-key_same k m a b c = grind (arith, a, b, c)
+pub key_same : (k m : Key) → k.base ≡ m.base → k.prop ≡ m.prop → k.entry ≡ m.entry → k.last ≡ m.last → k ≡ m
+key_same k m a b c d = grind (arith, a, b, c, d)
 
-texts_same : (t u : NameTexts) → t.base ≡ u.base → t.prop ≡ u.prop → t.last ≡ u.last → t ≡ u
-texts_same t u a b c = grind (arith, a, b, c)
+texts_same : (t u : NameTexts) → t.base ≡ u.base → t.prop ≡ u.prop → t.entry ≡ u.entry → t.last ≡ u.last → t ≡ u
+texts_same t u a b c d = grind (arith, a, b, c, d)
 
 key_told : (texts : List (List ℕ)) → AreDistinct texts → (k m : Key) (t : NameTexts) → Tells texts k t → Tells texts m t → k ≡ m
-key_told texts d k m t x y = key_same k m (d k.base m.base t.base x.0 y.0) (d k.prop m.prop t.prop x.1 y.1) (d k.last m.last t.last x.2 y.2)
+key_told texts d k m t x y = key_same k m (d k.base m.base t.base x.0 y.0) (d k.prop m.prop t.prop x.1 y.1) (d k.entry m.entry t.entry x.2 y.2) (d k.last m.last t.last x.3 y.3)
 
 texts_told : (texts : List (List ℕ)) (k : Key) (t u : NameTexts) → Tells texts k t → Tells texts k u → t ≡ u
-texts_told texts k t u x y = texts_same t u (get_both texts k.base t.base u.base x.0 y.0) (get_both texts k.prop t.prop u.prop x.1 y.1) (get_both texts k.last t.last u.last x.2 y.2)
+texts_told texts k t u x y = texts_same t u (get_both texts k.base t.base u.base x.0 y.0) (get_both texts k.prop t.prop u.prop x.1 y.1) (get_both texts k.entry t.entry u.entry x.2 y.2) (get_both texts k.last t.last u.last x.3 y.3)
 
 tells_on : (old new : List (List ℕ)) → Keeps old new → (k : Key) (t : NameTexts) → Tells old k t → Tells new k t
-tells_on old new keeps k t x = (keeps k.base t.base x.0, keeps k.prop t.prop x.1, keeps k.last t.last x.2)
+tells_on old new keeps k t x = (keeps k.base t.base x.0, keeps k.prop t.prop x.1, keeps k.entry t.entry x.2, keeps k.last t.last x.3)
 
 -- ---- the search
 

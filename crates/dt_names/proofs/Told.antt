@@ -1,9 +1,10 @@
--- Each definition's name is told by its spelling, and its parts give its three texts.
-use Rattle.std.proofs.Common.{◌≡◌, ℕ, true, not, List, [], ◌∷◌, ◌++◌, ◌&&◌, Option, Some, None, length, map, refl, sym, ap, ◌∙◌, inl, inr, codes, if◌then◌else◌, option_map}
+-- Each definition's name is told by its spelling, and its parts give its four texts.
+use Rattle.std.proofs.Common.{◌≡◌, ℕ, Bool, true, false, not, List, [], ◌∷◌, ◌++◌, ◌&&◌, Option, Some, None, length, map, refl, sym, ap, ◌∙◌, inl, inr, codes, if◌then◌else◌, option_map}
 use Rattle.std.specs.Prelude.{slice_get, nat_lt, unwrap_or}
 use Rattle.std.specs.List.{flat_map, All, Contains, range_with_len}
 use Rattle.std.specs.Option.{option_map_or}
-use Rattle.std.proofs.lemmas.Bool.{cases_Bool}
+use Rattle.std.specs.Str.{bytes_eq}
+use Rattle.std.proofs.lemmas.Bool.{cases_Bool, and_parts}
 use Rattle.std.proofs.lemmas.List.Elements.{All-nil, All-cons, All-contains}
 use Rattle.edt_base.specs.BoundData.{BoundData}
 use Rattle.edt_base.specs.BoundNodeData.{BoundNodeData}
@@ -17,7 +18,7 @@ use Rattle.edt_base.specs.declared.bound.Reg.{Reg}
 use Rattle.dt_names.specs.Facts.{FactData, each, there, id_at, plain, walks, path_facts, child_rows, child_facts, order_facts, match_facts, reg_lines, reg_facts, range_facts, cell_facts, irq_lines, irq_facts, entry_facts, of_prop, choice_lines, at_index, item_rows, item_facts, node_lines, pha_lines, pha_facts, Element, an_item, a_node, an_entry, elem_lines, elem_choices, elements, counted, value_body, choice_of, elem_visit, yes, okay_of, count_facts, shown_facts, prop_facts, is_shown, node_facts, link, label_facts, chosen_facts, place_fact, okay_facts, inst_facts, helper_facts, tree_facts, titled, titled_node, facts, full_name}
 use Rattle.dt_names.specs.Names.{name_parts, NamesAreTold}
 use Rattle.dt_names.specs.Pieces.{PieceData, lit, form, num}
-use Rattle.dt_names.proofs.Cut.{IsCut, is_own, follows_id, cut_node, cut_tree}
+use Rattle.dt_names.proofs.Cut.{IsCut, is_own, is_paired, follows_id, cut_node, cut_tree}
 use Rattle.dt_names.proofs.Spelling.{within, behind, is_good, is_instance, told, IsTold, told_marked, told_instance}
 use Rattle.dt_names.proofs.Table.{Hold, both_hold, each_hold, flat_hold, map_hold, there_hold, maybe_hold}
 
@@ -32,12 +33,18 @@ titled_told : (heading : List ℕ) (fs : List FactData) → HaveTexts fs → Hav
 titled_told heading [] h = tt
 titled_told heading (f ∷ fs) h = h
 
--- a marker and a word or number behind an id, where nothing else is behind them and where something is
-more_form : (m w : List ℕ) (rest : List PieceData) → follows_id (lit m ∷ form w ∷ []) ≡ true → is_good behind rest ≡ true → follows_id (lit m ∷ form w ∷ rest) ≡ true
-more_form m w rest h g = rw g h
+-- what may stand behind a word or number of a name
+abbrev is_tail : List PieceData → Bool
+is_tail rest = is_good behind rest && is_paired rest
 
-more_num : (m : List ℕ) (i : ℕ) (rest : List PieceData) → follows_id (lit m ∷ num i ∷ []) ≡ true → is_good behind rest ≡ true → follows_id (lit m ∷ num i ∷ rest) ≡ true
-more_num m i rest h g = rw g h
+-- a marker and a word or number behind an id, where nothing else is behind them and where something is
+more_form : (m w : List ℕ) (rest : List PieceData) → follows_id (lit m ∷ form w ∷ []) ≡ true → is_tail rest ≡ true → follows_id (lit m ∷ form w ∷ rest) ≡ true
+more_form m w rest h g =
+    let p : (is_good behind rest ≡ true) × (is_paired rest ≡ true) = and_parts _ _ g in
+    elim (cases_Bool (bytes_eq m (codes "_P_"))) [ inl e ↦ rw (p.0, e, p.1) (rw e at h) | inr e ↦ rw (p.0, e) (rw e at h) ]
+
+more_num : (m : List ℕ) (i : ℕ) (rest : List PieceData) → follows_id (lit m ∷ num i ∷ []) ≡ true → is_tail rest ≡ true → follows_id (lit m ∷ num i ∷ rest) ≡ true
+more_num m i rest h g = let p : (is_good behind rest ≡ true) × (is_paired rest ≡ true) = and_parts _ _ g in rw p.0 h
 
 -- a name of the tree that is no instance
 cut_mark : (t : List ℕ) (ps : List PieceData) → is_own (lit t ∷ ps) ≡ true → (is_good within (lit t ∷ ps) && not (is_instance (name_parts (lit t ∷ ps)))) ≡ true → IsCut [] (lit t ∷ ps)
@@ -83,7 +90,7 @@ match_told nodes n x y = (
 
 -- what may follow these pieces of a name may follow the id with them
 abbrev pub IsAt : List PieceData → Type 0
-IsAt at = (rest : List PieceData) → is_good behind rest ≡ true → follows_id (at ++ rest) ≡ true
+IsAt at = (rest : List PieceData) → is_tail rest ≡ true → follows_id (at ++ rest) ≡ true
 
 at_num : (m : List ℕ) (i : ℕ) → follows_id (lit m ∷ num i ∷ []) ≡ true → IsAt (lit m ∷ num i ∷ [])
 at_num m i h rest g = more_num m i rest h g
@@ -130,14 +137,18 @@ entries_told n path y =
     (cut_node path (lit (codes "_REG_NUM") ∷ []) refl, both_hold HasTexts (each (reg_facts n path) 0 y.regs) _ (each_hold HasTexts (reg_facts n path) (reg_told n path) 0 y.regs) ranges)
 
 -- behind a property
-at_prop : (name : List ℕ) (after : List PieceData) → ((rest : List PieceData) → is_good behind rest ≡ true → is_good behind (after ++ rest) ≡ true) → IsAt (of_prop name after)
+good_pair : (b c : Bool) → (b && c) ≡ true → (b && true) ≡ true
+good_pair true c h = refl
+good_pair false c h = absurd (cc)
+
+at_prop : (name : List ℕ) (after : List PieceData) → ((rest : List PieceData) → is_tail rest ≡ true → is_tail (after ++ rest) ≡ true) → IsAt (of_prop name after)
 at_prop name after h rest g = more_form (codes "_P_") name (after ++ rest) refl (h rest g)
 
 at_elem : (name : List ℕ) (i : ℕ) → IsAt (at_index name i)
-at_elem name i = at_prop name (lit (codes "_IDX_") ∷ num i ∷ []) (λ rest g. g)
+at_elem name i = at_prop name (lit (codes "_IDX_") ∷ num i ∷ []) (λ rest g. good_pair _ _ g)
 
 at_name : (name m : List ℕ) → IsAt (of_prop name (lit (codes "_NAME_") ∷ form m ∷ []))
-at_name name m = at_prop name (lit (codes "_NAME_") ∷ form m ∷ []) (λ rest g. g)
+at_name name m = at_prop name (lit (codes "_NAME_") ∷ form m ∷ []) (λ rest g. good_pair _ _ g)
 
 at_whole : (name : List ℕ) → IsAt (of_prop name [])
 at_whole name = at_prop name [] (λ rest g. g)

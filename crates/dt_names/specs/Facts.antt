@@ -20,10 +20,11 @@ use Rattle.dt_names.specs.Pieces.{PieceData, lit, form, str, num}
 use Rattle.dt_names.specs.declared.piece.Params.{Params}
 use Rattle.dt_names.specs.declared.piece.Params.TheVariants as params
 
--- a definition: the node that it belongs to, the comment that stands before it (of the first of a node and of the first of the tree), its name, its parameters and its body; a node's begins its name with the node's id, one of the tree has no id
+-- a definition: the node that it belongs to, the comment that stands before it (of the first of a node and of the first of the tree), whether it goes on about the entry that the one before it is on, its name, its parameters and its body; a node's begins its name with the node's id, one of the tree has no id
 pub record FactData : Type 0 where
   pub owner : ℕ
   pub heading : Option (List ℕ)
+  pub goes_on : Bool
   pub base : List PieceData
   pub rest : List PieceData
   pub params : Params
@@ -117,15 +118,19 @@ visits ps (t ∷ ts) = visit ps t ++ flat_map (λ u. lit (between ps) ∷ visit 
 
 -- a definition of the tree, which belongs to a node
 abbrev pub fact : ℕ → List PieceData → Params → List PieceData → FactData
-fact owner name ps body = record { owner = owner; heading = None; base = []; rest = name; params = ps; body = body }
+fact owner name ps body = record { owner = owner; heading = None; goes_on = false; base = []; rest = name; params = ps; body = body }
 
 -- a definition of the node n of a path: the id, and what follows it
 abbrev pub of_node : ℕ → List ℕ → List PieceData → Params → List PieceData → FactData
-of_node n path after ps body = record { owner = n; heading = None; base = id_pieces path; rest = after; params = ps; body = body }
+of_node n path after ps body = record { owner = n; heading = None; goes_on = false; base = id_pieces path; rest = after; params = ps; body = body }
 
 -- one without parameters
 abbrev pub plain : ℕ → List ℕ → List PieceData → List PieceData → FactData
 plain n path after body = of_node n path after params.Plain body
+
+-- the same, which goes on about the entry of the one before it
+abbrev pub going_on : FactData → FactData
+going_on f = record f { goes_on = true }
 
 -- the three walks of a name over things
 abbrev pub walks : ℕ → List ℕ → List PieceData → List (List PieceData) → List FactData
@@ -207,8 +212,8 @@ range_facts n path i r = range_lines n path (lit (codes "_RANGES_IDX_") ∷ num 
 -- the cells of an entry, by the entry's place or its name
 abbrev pub cell_facts : ℕ → List ℕ → List PieceData → List ℕ × ℕ → List FactData
 cell_facts n path at (c, v) =
-    plain n path (at ++ (lit (codes "_VAL_") ∷ form c ∷ [])) (num v ∷ [])
-    ∷ plain n path (at ++ (lit (codes "_VAL_") ∷ form c ∷ lit (codes "_EXISTS") ∷ [])) yes
+    going_on (plain n path (at ++ (lit (codes "_VAL_") ∷ form c ∷ [])) (num v ∷ []))
+    ∷ going_on (plain n path (at ++ (lit (codes "_VAL_") ∷ form c ∷ lit (codes "_EXISTS") ∷ [])) yes)
     ∷ []
 
 -- 10: an interrupt

@@ -8,6 +8,7 @@ pub mod Groups
 pub mod Ids
 pub mod Kept
 pub mod Keys
+pub mod Left
 pub mod Lengths
 pub mod Lists
 pub mod Names

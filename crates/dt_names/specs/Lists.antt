@@ -1,9 +1,11 @@
--- What stands behind the words of a body, in pieces.
-use Rattle.std.specs.Prelude.{List, [], ◌∷◌, ◌++◌, codes, map}
+-- What is left of a body, in pieces.
+use Rattle.std.specs.Prelude.{ℕ, List, [], ◌∷◌, ◌++◌, codes, map}
 use Rattle.std.specs.List.{flat_map}
-use Rattle.dt_names.specs.Facts.{id_at, id_pieces, okay_of, elem_visit, visit, visits, between, ords_body, braces}
-use Rattle.dt_names.specs.Pieces.{PieceData, lit, str, num}
+use Rattle.dt_names.specs.Facts.{id_at, id_pieces, okay_of, elem_visit, visit, visits, visit_end, between, ords_body, braces}
+use Rattle.dt_names.specs.Pieces.{PieceData, lit, form, str, num}
 use Rattle.dt_names.specs.Places.{places_in}
+use Rattle.dt_names.specs.Words.{piece_of}
+use Rattle.dt_names.specs.declared.piece.Params.{Params}
 use Rattle.dt_names.specs.declared.list.Listed.{Listed}
 use Rattle.dt_names.specs.declared.list.Listed.TheVariants as list
 use Rattle.dt_names.specs.declared.list.Thing.{Thing}
@@ -19,11 +21,15 @@ values_of (values.Ints ks) = map num ks.now
 values_of (values.Bytes bs) = map num bs.now
 values_of (values.Texts ss) = map str ss.now
 
--- a thing that is visited
+-- a thing that is visited, or what is left of one
 abbrev pub thing_pieces : Thing → List PieceData
 thing_pieces (thing.Id id) = id_pieces id.path.now
 thing_pieces (thing.Elem id name i) = elem_visit id.path.now name.text.now i
+thing_pieces (thing.Behind name i) = lit (codes ", ") ∷ form name.text.now ∷ lit (codes ", ") ∷ num i ∷ []
+thing_pieces (thing.Named name i) = form name.text.now ∷ lit (codes ", ") ∷ num i ∷ []
+thing_pieces (thing.Placed i) = lit (codes ", ") ∷ num i ∷ []
 thing_pieces (thing.Number k) = num k ∷ []
+thing_pieces thing.Nothing = []
 
 -- the things that are visited
 abbrev pub things_of : Visited → List (List PieceData)
@@ -34,12 +40,28 @@ things_of (visited.Numbers places) = map (λ k. num k ∷ []) (places_in places)
 things_of (visited.Nodes b places) = map (id_at b.now.tree.nodes) (places_in places)
 things_of (visited.OkayNodes b places) = map (id_at b.now.tree.nodes) (okay_of b.now.tree.nodes (places_in places))
 
--- a list, and what is left of one behind its first
+-- what is left of lists behind their first
+abbrev pub more_visits : Params → List (List PieceData) → List PieceData
+more_visits ps things = flat_map (λ t. lit (between ps) ∷ visit ps t) things
+
+abbrev pub more_ords : List ℕ → List PieceData
+more_ords os = flat_map (λ o. lit (codes " ") ∷ num o ∷ lit (codes ",") ∷ []) os
+
+abbrev pub more_values : List PieceData → List PieceData
+more_values vs = flat_map (λ v. lit (codes ", ") ∷ v ∷ []) vs ++ lit (codes "}") ∷ []
+
+-- a list, and what is left of one
 abbrev pub listed : Listed → List PieceData
 listed list.Nothing = []
+listed (list.One p) = piece_of p ∷ []
 listed (list.Visits ps things) = visits ps (things_of things)
-listed (list.MoreVisits ps things) = flat_map (λ t. lit (between ps) ∷ visit ps t) (things_of things)
+listed (list.Open ps t things) = lit (codes "fn(") ∷ ((thing_pieces t ++ lit (visit_end ps) ∷ []) ++ more_visits ps (things_of things))
+listed (list.Within ps t things) = (thing_pieces t ++ lit (visit_end ps) ∷ []) ++ more_visits ps (things_of things)
+listed (list.MoreVisits ps things) = more_visits ps (things_of things)
 listed (list.Ords os) = ords_body os.now
-listed (list.MoreOrds os) = flat_map (λ o. lit (codes " ") ∷ num o ∷ lit (codes ",") ∷ []) os.now
+listed (list.Ord o os) = num o ∷ lit (codes ",") ∷ more_ords os.now
+listed (list.Comma os) = lit (codes ",") ∷ more_ords os.now
+listed (list.MoreOrds os) = more_ords os.now
 listed (list.Braces vs) = braces (values_of vs)
-listed (list.MoreBraces vs) = flat_map (λ v. lit (codes ", ") ∷ v ∷ []) (values_of vs) ++ lit (codes "}") ∷ []
+listed (list.Value p vs) = piece_of p ∷ more_values (values_of vs)
+listed (list.MoreBraces vs) = more_values (values_of vs)

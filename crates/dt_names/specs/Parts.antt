@@ -5,7 +5,7 @@ use Rattle.edt_base.specs.IndexData.{path_at}
 use Rattle.edt_base.specs.NodeData.{NodeData}
 use Rattle.edt_base.specs.PropData.{PropData}
 use Rattle.dt_names.specs.Facts.{FactData, each, id_pieces, id_at, prop_facts}
-use Rattle.dt_names.specs.Keys.{AreOfProp}
+use Rattle.dt_names.specs.Keys.{AreOfProp, GoOn}
 use Rattle.dt_names.specs.Pieces.{PieceData}
 use Rattle.dt_names.specs.Sections.{AreBased, node_sections, tree_section}
 use Rattle.dt_names.specs.declared.section.Kind.{Kind}
@@ -72,3 +72,5 @@ pub record IsNext (before : Sections) (here : Of) (rows : List FactData) (after 
   pub based : AreBased (base_left after) rows
   -- and speak of the property that the section is on
   pub own : SpeakOf here rows
+  -- and each that goes on has the entry of the one before it
+  pub going : GoOn rows

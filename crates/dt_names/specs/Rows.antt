@@ -19,15 +19,16 @@ use Rattle.dt_names.specs.declared.row.Body.TheVariants as body
 use Rattle.dt_names.specs.declared.row.Row.{Row}
 use Rattle.dt_names.specs.declared.row.Things.{Things}
 use Rattle.dt_names.specs.declared.row.Things.TheVariants as things
+use Rattle.dt_names.specs.declared.tail.Tail.{Tail}
 
 -- what a name says behind the id of what it speaks of
 abbrev pub at_pieces : At → List PieceData
 at_pieces at.Itself = []
 at_pieces (at.Nth mark i) = lit mark.now ∷ num i ∷ []
-at_pieces (at.Named mark word) = lit mark.now ∷ form word.now ∷ []
+at_pieces (at.Named mark name) = lit mark.now ∷ form name.text.now ∷ []
 at_pieces (at.Prop name) = lit (codes "_P_") ∷ form name.text.now ∷ []
 at_pieces (at.Elem name i) = lit (codes "_P_") ∷ form name.text.now ∷ lit (codes "_IDX_") ∷ num i ∷ []
-at_pieces (at.Entry name word) = lit (codes "_P_") ∷ form name.text.now ∷ lit (codes "_NAME_") ∷ form word.now ∷ []
+at_pieces (at.Entry name entry) = lit (codes "_P_") ∷ form name.text.now ∷ lit (codes "_NAME_") ∷ form entry.text.now ∷ []
 
 -- how a name ends
 abbrev pub ending_pieces : Ending → List PieceData
@@ -36,6 +37,10 @@ ending_pieces (ending.Mark mark) = lit mark.now ∷ []
 ending_pieces (ending.Marks mark after) = lit mark.now ∷ lit after.now ∷ []
 ending_pieces (ending.Word mark word) = lit mark.now ∷ form word.now ∷ []
 ending_pieces (ending.Between mark word after) = lit mark.now ∷ form word.now ∷ lit after.now ∷ []
+
+-- what a name has behind its id
+abbrev pub tail_pieces : Tail → List PieceData
+tail_pieces t = at_pieces t.at ++ ending_pieces t.ending
 
 -- what is visited in a definition of the node n
 abbrev pub things_at : List NodeData → ℕ → Things → List (List PieceData)
@@ -56,7 +61,7 @@ body_pieces nodes n ps (body.Visits things) = visits ps (things_at nodes n thing
 
 -- the row of a definition of a node
 abbrev pub walk_row : ℕ → At → Ending → Params → Body → Row
-walk_row n at ending ps body = record { owner = n; of_tree = false; at = at; ending = ending; params = ps; body = body }
+walk_row n at ending ps body = record { owner = n; of_tree = false; goes_on = false; at = at; ending = ending; params = ps; body = body }
 
 -- that of one without parameters
 abbrev pub plain_row : ℕ → At → Ending → Body → Row
@@ -66,15 +71,20 @@ plain_row n at ending body = walk_row n at ending params.Plain body
 abbrev pub number_row : ℕ → At → Ending → ℕ → Row
 number_row n at ending k = plain_row n at ending (body.One (piece.Num k))
 
+-- that of a cell, which goes on about the entry of the one before it
+abbrev pub cell_row : ℕ → At → Ending → ℕ → Row
+cell_row n at ending k = record (number_row n at ending k) { goes_on = true }
+
 -- the row of a definition of the tree, which belongs to the node n
 abbrev pub tree_row : ℕ → At → Ending → Params → Body → Row
-tree_row n at ending ps body = record { owner = n; of_tree = true; at = at; ending = ending; params = ps; body = body }
+tree_row n at ending ps body = record { owner = n; of_tree = true; goes_on = false; at = at; ending = ending; params = ps; body = body }
 
 -- the definition that a row is
 abbrev pub fact_of : List NodeData → Row → FactData
 fact_of nodes r = record {
   owner = r.owner;
   heading = None;
+  goes_on = r.goes_on;
   base = if r.of_tree then [] else id_at nodes r.owner;
   rest = at_pieces r.at ++ ending_pieces r.ending;
   params = r.params;

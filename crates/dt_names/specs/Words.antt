@@ -1,5 +1,5 @@
 -- What words stand for, in pieces.
-use Rattle.std.specs.Prelude.{List, [], ◌∷◌, Option, Some, None}
+use Rattle.std.specs.Prelude.{List, [], ◌∷◌}
 use Rattle.dt_names.specs.Facts.{id_pieces}
 use Rattle.dt_names.specs.Pieces.{PieceData, lit, form, str, num}
 use Rattle.dt_names.specs.declared.piece.Piece.{Piece}
@@ -19,8 +19,3 @@ abbrev pub word_pieces : Word → List PieceData
 word_pieces (word.Id id) = id_pieces id.path.now
 word_pieces (word.Name name) = form name.text.now ∷ []
 word_pieces (word.One p) = piece_of p ∷ []
-
--- those of a word that may be absent
-abbrev pub pieces_in : Option Word → List PieceData
-pieces_in None = []
-pieces_in (Some w) = word_pieces w

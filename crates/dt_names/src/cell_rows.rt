@@ -1,7 +1,7 @@
 //! The definitions on interrupts and on the entries of a phandle-array: each with its cells, by its
 //! place and by its name.
 
-ghost use Rattle.std.specs.Prelude.{◌≡◌, ◌∷◌, ◌++◌, [], MatchOption, Some, codes, option_map};
+ghost use Rattle.std.specs.Prelude.{◌≡◌, ◌∷◌, ◌++◌, [], Some, codes, option_map, MatchBool};
 ghost use Rattle.std.specs.List.{flat_map};
 ghost use Rattle.std.specs.Option.{option_map_or};
 ghost use Rattle.edt_base.specs.IndexData.{path_at};
@@ -11,7 +11,7 @@ ghost use Rattle.dt_names.specs.Rows.{at_pieces};
 
 use crate::fact::{Fact, Single};
 use crate::row::{At, Body, Ending};
-use crate::rows::{number, plain};
+use crate::rows::{number, of_cell, plain};
 use crate::word::Name;
 use edt_base::{Bound, Entry, Irq, Text};
 use std::marker::Model;
@@ -84,23 +84,23 @@ impl<'a> CellRows<'a> {
         }
     }
 
-    /// The next definition; None exactly after the last.
-    fn next(&mut self) -> Option<Fact<'a>>
-        ensures { MatchOption result ((self.old ≡ []) × (self.new ≡ [])) (λ x. self.old ≡ x ∷ self.new) }
+    /// Puts the next definition into `fact`; false exactly where none is left.
+    fn next(&mut self, fact: &mut Fact<'a>) -> bool
+        ensures { MatchBool result (self.old ≡ fact.new ∷ self.new) ((self.old ≡ []) × (self.new ≡ [])) }
     {
-        if let Some(fact) = self.exists.next() {
-            return Some(fact);
+        if self.exists.next(fact) {
+            return true;
         }
         let bound = self.bound;
         if let Some((cell, rest)) = self.narrow.split_first() {
             let name = cell.0.as_str().as_bytes();
-            let value = number(
+            let value = of_cell(
                 self.owner,
                 self.at,
                 Ending::Word("_VAL_", name),
                 cell.1 as u128,
             );
-            let exists = number(
+            let exists = of_cell(
                 self.owner,
                 self.at,
                 Ending::Between("_VAL_", name, "_EXISTS"),
@@ -108,17 +108,20 @@ impl<'a> CellRows<'a> {
             );
             self.narrow = rest;
             self.exists = Single::new(bound, Some(exists));
-            return Some(Fact::new(bound, value));
+            *fact = Fact::new(bound, value);
+            return true;
         }
-        let (cell, rest) = self.wide.split_first()?;
+        let Some((cell, rest)) = self.wide.split_first() else {
+            return false;
+        };
         let name = cell.0.as_str().as_bytes();
-        let value = number(
+        let value = of_cell(
             self.owner,
             self.at,
             Ending::Word("_VAL_", name),
             cell.1 as u128,
         );
-        let exists = number(
+        let exists = of_cell(
             self.owner,
             self.at,
             Ending::Between("_VAL_", name, "_EXISTS"),
@@ -126,7 +129,8 @@ impl<'a> CellRows<'a> {
         );
         self.wide = rest;
         self.exists = Single::new(bound, Some(exists));
-        Some(Fact::new(bound, value))
+        *fact = Fact::new(bound, value);
+        true
     }
 }
 
@@ -182,17 +186,17 @@ impl<'a> EntryLines<'a> {
         }
     }
 
-    /// The next definition; None exactly after the last.
-    fn next(&mut self) -> Option<Fact<'a>>
-        ensures { MatchOption result ((self.old ≡ []) × (self.new ≡ [])) (λ x. self.old ≡ x ∷ self.new) }
+    /// Puts the next definition into `fact`; false exactly where none is left.
+    fn next(&mut self, fact: &mut Fact<'a>) -> bool
+        ensures { MatchBool result (self.old ≡ fact.new ∷ self.new) ((self.old ≡ []) × (self.new ≡ [])) }
     {
-        if let Some(fact) = self.exists.next() {
-            return Some(fact);
+        if self.exists.next(fact) {
+            return true;
         }
-        if let Some(fact) = self.controller.next() {
-            return Some(fact);
+        if self.controller.next(fact) {
+            return true;
         }
-        self.cells.next()
+        self.cells.next(fact)
     }
 }
 
@@ -230,7 +234,7 @@ impl<'a> EntryRows<'a> {
         let indexed = EntryLines::of_irq(bound, n, At::Nth("_IRQ_IDX_", i), irq);
         match irq_name(irq) {
             Some(name) => {
-                let at = At::Named("_IRQ_NAME_", name);
+                let at = At::Named("_IRQ_NAME_", Name::new(name));
                 EntryRows {
                     indexed,
                     named: EntryLines::of_irq(bound, n, at, irq),
@@ -256,7 +260,7 @@ impl<'a> EntryRows<'a> {
         let indexed = EntryLines::of_entry(bound, n, At::Elem(prop, i), entry);
         match &entry.name {
             Some(name) => {
-                let at = At::Entry(prop, name.as_str().as_bytes());
+                let at = At::Entry(prop, Name::new(name.as_str().as_bytes()));
                 EntryRows {
                     indexed,
                     named: EntryLines::of_entry(bound, n, at, entry),
@@ -269,14 +273,14 @@ impl<'a> EntryRows<'a> {
         }
     }
 
-    /// The next definition; None exactly after the last.
-    pub(crate) fn next(&mut self) -> Option<Fact<'a>>
-        ensures { MatchOption result ((self.old ≡ []) × (self.new ≡ [])) (λ x. self.old ≡ x ∷ self.new) }
+    /// Puts the next definition into `fact`; false exactly where none is left.
+    pub(crate) fn next(&mut self, fact: &mut Fact<'a>) -> bool
+        ensures { MatchBool result (self.old ≡ fact.new ∷ self.new) ((self.old ≡ []) × (self.new ≡ [])) }
     {
-        if let Some(fact) = self.indexed.next() {
-            return Some(fact);
+        if self.indexed.next(fact) {
+            return true;
         }
-        self.named.next()
+        self.named.next(fact)
     }
 }
 

@@ -1,6 +1,6 @@
 //! The definitions of a node on its children.
 
-ghost use Rattle.std.specs.Prelude.{◌≡◌, ◌∷◌, [], MatchOption};
+ghost use Rattle.std.specs.Prelude.{◌≡◌, ◌∷◌, [], MatchBool};
 ghost use Rattle.edt_base.specs.IndexData.{path_at};
 ghost use Rattle.dt_names.specs.Facts.{child_rows};
 
@@ -60,16 +60,16 @@ impl<'a> ChildRows<'a> {
         }
     }
 
-    /// The next definition; None exactly after the last.
-    pub(crate) fn next(&mut self) -> Option<Fact<'a>>
-        ensures { MatchOption result ((self.old ≡ []) × (self.new ≡ [])) (λ x. self.old ≡ x ∷ self.new) }
+    /// Puts the next definition into `fact`; false exactly where none is left.
+    pub(crate) fn next(&mut self, fact: &mut Fact<'a>) -> bool
+        ensures { MatchBool result (self.old ≡ fact.new ∷ self.new) ((self.old ≡ []) × (self.new ≡ [])) }
     {
-        if let Some(fact) = self.counts.next() {
-            return Some(fact);
+        if self.counts.next(fact) {
+            return true;
         }
-        if let Some(fact) = self.all.next() {
-            return Some(fact);
+        if self.all.next(fact) {
+            return true;
         }
-        self.okay.next()
+        self.okay.next(fact)
     }
 }

@@ -1,6 +1,6 @@
 //! The definitions on the elements of a property.
 
-ghost use Rattle.std.specs.Prelude.{◌≡◌, ◌∷◌, ◌++◌, [], MatchOption, codes, option_map};
+ghost use Rattle.std.specs.Prelude.{◌≡◌, ◌∷◌, ◌++◌, [], codes, option_map, MatchBool};
 ghost use Rattle.std.specs.Option.{option_map_or};
 ghost use Rattle.edt_base.specs.IndexData.{path_at};
 ghost use Rattle.dt_names.specs.Elems.{element, elements_left};
@@ -100,16 +100,16 @@ impl<'a> ElemLines<'a> {
         *self = ElemLines::new(bound, n, name, choices, i, elem);
     }
 
-    fn next(&mut self) -> Option<Fact<'a>>
-        ensures { MatchOption result ((self.old ≡ []) × (self.new ≡ [])) (λ x. self.old ≡ x ∷ self.new) }
+    fn next(&mut self, fact: &mut Fact<'a>) -> bool
+        ensures { MatchBool result (self.old ≡ fact.new ∷ self.new) ((self.old ≡ []) × (self.new ≡ [])) }
     {
-        if let Some(fact) = self.value.next() {
-            return Some(fact);
+        if self.value.next(fact) {
+            return true;
         }
-        if let Some(fact) = self.choice.next() {
-            return Some(fact);
+        if self.choice.next(fact) {
+            return true;
         }
-        self.entry.next()
+        self.entry.next(fact)
     }
 }
 
@@ -226,16 +226,18 @@ impl<'a> ElemRows<'a> {
         }
     }
 
-    /// The next definition; None exactly after the last.
-    pub(crate) fn next(&mut self) -> Option<Fact<'a>>
-        ensures { MatchOption result ((self.old ≡ []) × (self.new ≡ [])) (λ x. self.old ≡ x ∷ self.new) }
+    /// Puts the next definition into `fact`; false exactly where none is left.
+    pub(crate) fn next(&mut self, fact: &mut Fact<'a>) -> bool
+        ensures { MatchBool result (self.old ≡ fact.new ∷ self.new) ((self.old ≡ []) × (self.new ≡ [])) }
     {
         let count = self.count;
         loop {
-            if let Some(fact) = self.lines.next() {
-                return Some(fact);
+            if self.lines.next(fact) {
+                return true;
             }
-            let (elem, rest) = next_elem(self.elems)?;
+            let Some((elem, rest)) = next_elem(self.elems) else {
+                return false;
+            };
             let holds = self.index < count;
             prove!(holds);
             self.lines.begin(

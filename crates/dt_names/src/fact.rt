@@ -1,24 +1,23 @@
 //! A definition, and the queue in which definitions that come together wait.
 
-ghost use Rattle.std.specs.Prelude.{◌≡◌, ◌∷◌, ◌++◌, [], MatchOption, Some, codes, drop, false, option_map, take, true, if◌then◌else◌};
-ghost use Rattle.std.specs.Str.{bytes_eq};
+ghost use Rattle.std.specs.Prelude.{◌≡◌, ◌∷◌, ◌++◌, [], drop, option_map, take, if◌then◌else◌, MatchBool};
+ghost use Rattle.edt_base.specs.IndexData.{path_at};
 ghost use Rattle.dt_names.specs.Clash.{said};
-ghost use Rattle.dt_names.specs.Facts.{full_name, id_at};
-ghost use Rattle.dt_names.specs.Keys.{IsParted, is_of_prop};
+ghost use Rattle.dt_names.specs.Facts.{full_name};
+ghost use Rattle.dt_names.specs.Keys.{behind_prop, is_of_prop};
 ghost use Rattle.dt_names.specs.Lists.{things_of};
-ghost use Rattle.dt_names.specs.Pieces.{lit, form, num};
-ghost use Rattle.dt_names.specs.Rows.{body_pieces, fact_of, at_pieces, ending_pieces, things_at, waiting, with_heading};
-ghost use Rattle.dt_names.specs.Words.{pieces_in};
+ghost use Rattle.dt_names.specs.Rows.{body_pieces, fact_of, at_pieces, ending_pieces, tail_pieces, things_at, waiting, with_heading};
 
 use crate::child_place::node_count;
 use crate::held::Held;
 use crate::list::{Listed, Visited};
-use crate::piece::{Params, Piece};
+use crate::piece::Params;
 use crate::pieces::Pieces;
 use crate::place::Places;
 use crate::row::{At, Body, Ending, Row, Things};
-use crate::word::{Id, Name, Word};
-use crate::words::Words;
+use crate::rows::number;
+use crate::tail::{Tail, behind_prop, of_prop, split_entry};
+use crate::word::Id;
 use edt_base::{Bound, NodeId};
 use std::marker::Model;
 
@@ -52,15 +51,16 @@ impl<'a> Fact<'a> {
         }
     }
 
-    /// The same definition with a comment before it.
-    pub(crate) fn titled(self, heading: &'a [u8]) -> Fact<'a>
-        ensures { result ≡ with_heading heading.now self.entry }
+    /// Room for a definition.
+    pub(crate) fn nothing(bound: &'a Bound) -> Fact<'a> {
+        Fact::new(bound, number(0, At::Itself, Ending::Nothing, 0))
+    }
+
+    /// Puts a comment before the definition.
+    pub(crate) fn title(&mut self, heading: &'a [u8])
+        ensures { self.new ≡ with_heading heading.now self.old }
     {
-        Fact {
-            bound: self.bound,
-            heading: Some(heading),
-            row: self.row,
-        }
+        self.heading = Some(heading);
     }
 
     /// The node that the definition belongs to: that whose name or entry it speaks of, or the node
@@ -78,39 +78,48 @@ impl<'a> Fact<'a> {
         self.row.params
     }
 
+    /// The definition is on the entry that the one before it is on.
+    pub(crate) fn goes_on(&self) -> bool
+        ensures { result ≡ self.now.goes_on }
+    {
+        self.row.goes_on
+    }
+
     /// The name, in pieces.
     pub fn name(&self) -> Pieces<'a>
         ensures { result ≡ full_name self.now }
     {
         let row = self.row;
-        let id = if row.of_tree {
-            None
-        } else {
-            Some(id_word(self.bound, row.owner))
-        };
-        Pieces::new(name_words(id, row.at, row.ending), Listed::Nothing)
+        if row.of_tree {
+            return Pieces::of_tail(tail_of(row));
+        }
+        Pieces::of_name(id_of(self.bound, row.owner), tail_of(row))
     }
 
     /// The property that the name speaks of, in pieces; none where it speaks of none.
     pub(crate) fn prop(&self) -> Pieces<'a>
         ensures { result ≡ (if is_of_prop self.now.rest then take 2 self.now.rest else []) }
     {
-        match of_prop(self.row.at, self.row.ending) {
-            Some((words, _, _)) => Pieces::new(words, Listed::Nothing),
-            None => Pieces::new(Words::none(), Listed::Nothing),
+        match of_prop(tail_of(self.row)) {
+            Some((prop, _)) => Pieces::of_tail(prop),
+            None => Pieces::of_list(Listed::Nothing),
         }
     }
 
-    /// What the name has behind the id and the property, in pieces.
-    pub(crate) fn last(&self) -> Pieces<'a>
-        ensures { result ≡ (if is_of_prop self.now.rest then drop 2 self.now.rest else self.now.rest) }
+    /// The two pieces that the name has behind the id and the property, which tell an entry.
+    pub(crate) fn entry(&self) -> Pieces<'a>
+        ensures { result ≡ take 2 (behind_prop self.now.rest) }
     {
-        let row = self.row;
-        let (at, ending) = match of_prop(row.at, row.ending) {
-            Some((_, at, ending)) => (at, ending),
-            None => (row.at, row.ending),
-        };
-        Pieces::new(name_words(None, at, ending), Listed::Nothing)
+        let (entry, _) = split_entry(behind_prop(tail_of(self.row)));
+        Pieces::of_tail(entry)
+    }
+
+    /// What the name has behind these, in pieces.
+    pub(crate) fn last(&self) -> Pieces<'a>
+        ensures { result ≡ drop 2 (behind_prop self.now.rest) }
+    {
+        let (_, last) = split_entry(behind_prop(tail_of(self.row)));
+        Pieces::of_tail(last)
     }
 
     /// The body, in pieces.
@@ -153,25 +162,32 @@ pub(crate) fn body_of<'a>(
     ensures { result ≡ body_pieces bound.now.tree.nodes owner params body.entry }
 {
     match body {
-        Body::One(piece) => Pieces::new(Words::one(Word::One(piece)), Listed::Nothing),
-        Body::Id(id) => {
-            let id = Id::of(bound, id);
-            Pieces::new(Words::one(Word::Id(id)), Listed::Nothing)
-        }
-        Body::Ords(ords) => Pieces::new(Words::none(), Listed::Ords(ords)),
-        Body::Braces(values) => Pieces::new(Words::none(), Listed::Braces(values)),
+        Body::One(piece) => Pieces::of_list(Listed::One(piece)),
+        Body::Id(id) => Pieces::of_id(Id::of(bound, id)),
+        Body::Ords(ords) => Pieces::of_list(Listed::Ords(ords)),
+        Body::Braces(values) => Pieces::of_list(Listed::Braces(values)),
         Body::Visits(things) => {
             let visited = visited(bound, owner, things);
-            Pieces::new(Words::none(), Listed::Visits(params, visited))
+            Pieces::of_list(Listed::Visits(params, visited))
         }
     }
 }
 
-// The id of a node, as a word.
-fn id_word(bound: &Bound, node: u32) -> Word<'_>
-    ensures { pieces_in (Some result) ≡ id_at bound.now.tree.nodes node }
+// The id of a node.
+fn id_of(bound: &Bound, node: u32) -> Id<'_>
+    ensures { result.path.now ≡ path_at bound.now.tree.nodes node }
 {
-    Word::Id(Id::of(bound, node as usize))
+    Id::of(bound, node as usize)
+}
+
+// What a row's name has behind the id.
+fn tail_of(row: Row<'_>) -> Tail<'_>
+    ensures { tail_pieces result ≡ at_pieces row.entry.at ++ ending_pieces row.entry.ending }
+{
+    Tail {
+        at: row.at,
+        ending: row.ending,
+    }
 }
 
 // What a body visits, as its list has it.
@@ -182,144 +198,12 @@ fn visited<'a>(bound: &'a Bound, owner: u32, things: Things<'a>) -> Visited<'a>
         Things::Ids(ids) => Visited::Ids(bound, ids),
         Things::OkayIds(ids) => Visited::OkayIds(bound, ids),
         Things::Elems(name, count) => {
-            Visited::Elems(Id::of(bound, owner as usize), name, Places::below(count))
+            Visited::Elems(id_of(bound, owner), name, Places::below(count))
         }
         Things::Numbers(count) => Visited::Numbers(Places::below(count)),
         Things::Nodes => Visited::Nodes(bound, Places::below(node_count(bound))),
         Things::OkayNodes => Visited::OkayNodes(bound, Places::below(node_count(bound))),
     }
-}
-
-// The words of a name: the id, what is behind it, and the ending.
-fn name_words<'a>(id: Option<Word<'a>>, at: At<'a>, ending: Ending<'a>) -> Words<'a>
-    ensures { result ≡ pieces_in id.entry ++ (at_pieces at.entry ++ ending_pieces ending.entry) }
-{
-    match at {
-        At::Itself => ended(id, None, None, None, None, ending),
-        At::Nth(mark, place) => ended(id, lit(mark), num(place), None, None, ending),
-        At::Named(mark, word) => ended(id, lit(mark), form(word), None, None, ending),
-        At::Prop(name) => ended(id, lit("_P_"), Some(Word::Name(name)), None, None, ending),
-        At::Elem(name, place) => {
-            ended(
-                id,
-                lit("_P_"),
-                Some(Word::Name(name)),
-                lit("_IDX_"),
-                num(place),
-                ending,
-            )
-        }
-        At::Entry(name, word) => {
-            ended(
-                id,
-                lit("_P_"),
-                Some(Word::Name(name)),
-                lit("_NAME_"),
-                form(word),
-                ending,
-            )
-        }
-    }
-}
-
-// Where a name speaks of a property: the words of this, and what is behind them.
-fn of_prop<'a>(at: At<'a>, ending: Ending<'a>) -> Option<(Words<'a>, At<'a>, Ending<'a>)>
-    ensures { MatchOption result (is_of_prop (at_pieces at.entry ++ ending_pieces ending.entry) ≡ false)
-        (λ r. IsParted (at_pieces at.entry ++ ending_pieces ending.entry) r.0 (at_pieces r.1 ++ ending_pieces r.2)) }
-{
-    match at {
-        At::Itself => {
-            let (words, ending) = word_of_prop(ending)?;
-            Some((words, At::Itself, ending))
-        }
-        At::Nth(_, _) => None,
-        At::Named(mark, word) => {
-            let words = marked_prop(mark, word)?;
-            Some((words, At::Itself, ending))
-        }
-        At::Prop(name) => Some((named_prop(name), At::Itself, ending)),
-        At::Elem(name, place) => Some((named_prop(name), At::Nth("_IDX_", place), ending)),
-        At::Entry(name, word) => Some((named_prop(name), At::Named("_NAME_", word), ending)),
-    }
-}
-
-// The same of the ending of a name that says nothing before it.
-fn word_of_prop<'a>(ending: Ending<'a>) -> Option<(Words<'a>, Ending<'a>)>
-    ensures { MatchOption result (is_of_prop (ending_pieces ending.entry) ≡ false)
-        (λ r. IsParted (ending_pieces ending.entry) r.0 (ending_pieces r.1)) }
-{
-    match ending {
-        Ending::Word(mark, word) => Some((marked_prop(mark, word)?, Ending::Nothing)),
-        Ending::Between(mark, word, after) => Some((marked_prop(mark, word)?, Ending::Mark(after))),
-        _ => None,
-    }
-}
-
-// A marker and a word, where they are a property.
-fn marked_prop<'a>(mark: &'static str, word: &'a [u8]) -> Option<Words<'a>>
-    ensures { MatchOption result (bytes_eq mark.now (codes "_P_") ≡ false)
-        (λ r. (bytes_eq mark.now (codes "_P_") ≡ true) × (r ≡ lit mark.now ∷ form word.now ∷ [])) }
-{
-    if mark == "_P_" {
-        return Some(Words::two(Word::One(Piece::Lit(mark)), Word::One(Piece::Form(word))));
-    }
-    None
-}
-
-// The words of a property.
-fn named_prop<'a>(name: Name<'a>) -> Words<'a>
-    ensures { result ≡ lit (codes "_P_") ∷ form name.entry.text.now ∷ [] }
-{
-    Words::two(Word::One(Piece::Lit("_P_")), Word::Name(name))
-}
-
-// The words that a name begins with, and its ending.
-fn ended<'a>(
-    first: Option<Word<'a>>,
-    second: Option<Word<'a>>,
-    third: Option<Word<'a>>,
-    fourth: Option<Word<'a>>,
-    fifth: Option<Word<'a>>,
-    ending: Ending<'a>,
-) -> Words<'a>
-    ensures { result ≡ pieces_in first.entry ++ (pieces_in second.entry ++ (pieces_in third.entry
-        ++ (pieces_in fourth.entry ++ (pieces_in fifth.entry ++ ending_pieces ending.entry)))) }
-{
-    let (sixth, seventh, eighth) = match ending {
-        Ending::Nothing => (None, None, None),
-        Ending::Mark(mark) => (lit(mark), None, None),
-        Ending::Marks(mark, after) => (lit(mark), lit(after), None),
-        Ending::Word(mark, word) => (lit(mark), form(word), None),
-        Ending::Between(mark, word, after) => (lit(mark), form(word), lit(after)),
-    };
-    Words {
-        first,
-        second,
-        third,
-        fourth,
-        fifth,
-        sixth,
-        seventh,
-        eighth,
-    }
-}
-
-fn lit<'a>(mark: &'static str) -> Option<Word<'a>>
-    ensures { pieces_in result ≡ lit mark.now ∷ [] }
-{
-    Some(Word::One(Piece::Lit(mark)))
-}
-
-fn form<'a>(word: &'a [u8]) -> Option<Word<'a>>
-    ensures { pieces_in result ≡ form word.now ∷ [] }
-{
-    Some(Word::One(Piece::Form(word)))
-}
-
-fn num<'a>(number: usize) -> Option<Word<'a>>
-    ensures { pieces_in result ≡ num number ∷ [] }
-{
-    Some(Word::One(Piece::Num(number as u128)))
 }
 
 /// Definitions that come together. Contracts see those that are left.
@@ -375,28 +259,32 @@ impl<'a> Queue<'a> {
         }
     }
 
-    /// The next definition; None exactly after the last.
-    pub(crate) fn next(&mut self) -> Option<Fact<'a>>
-        ensures { MatchOption result ((self.old ≡ []) × (self.new ≡ [])) (λ x. self.old ≡ x ∷ self.new) }
+    /// Puts the next definition into `fact`; false exactly where none is left.
+    pub(crate) fn next(&mut self, fact: &mut Fact<'a>) -> bool
+        ensures { MatchBool result (self.old ≡ fact.new ∷ self.new) ((self.old ≡ []) × (self.new ≡ [])) }
     {
         let bound = self.bound;
         if let Some(row) = self.first {
             self.first = None;
-            return Some(Fact::new(bound, row));
+            *fact = Fact::new(bound, row);
+            return true;
         }
         if let Some(row) = self.second {
             self.second = None;
-            return Some(Fact::new(bound, row));
+            *fact = Fact::new(bound, row);
+            return true;
         }
         if let Some(row) = self.third {
             self.third = None;
-            return Some(Fact::new(bound, row));
+            *fact = Fact::new(bound, row);
+            return true;
         }
         if let Some(row) = self.fourth {
             self.fourth = None;
-            return Some(Fact::new(bound, row));
+            *fact = Fact::new(bound, row);
+            return true;
         }
-        None
+        false
     }
 }
 
@@ -424,12 +312,15 @@ impl<'a> Single<'a> {
         Single { bound, row }
     }
 
-    /// The definition; None exactly where none is left.
-    pub(crate) fn next(&mut self) -> Option<Fact<'a>>
-        ensures { MatchOption result ((self.old ≡ []) × (self.new ≡ [])) (λ x. self.old ≡ x ∷ self.new) }
+    /// Puts the definition into `fact`; false exactly where none is left.
+    pub(crate) fn next(&mut self, fact: &mut Fact<'a>) -> bool
+        ensures { MatchBool result (self.old ≡ fact.new ∷ self.new) ((self.old ≡ []) × (self.new ≡ [])) }
     {
-        let row = self.row?;
+        let Some(row) = self.row else {
+            return false;
+        };
         self.row = None;
-        Some(Fact::new(self.bound, row))
+        *fact = Fact::new(self.bound, row);
+        true
     }
 }

@@ -1,6 +1,6 @@
 //! All definitions of a bound tree, in order.
 
-ghost use Rattle.std.specs.Prelude.{◌≡◌, ◌∷◌, [], MatchOption, unwrap_or};
+ghost use Rattle.std.specs.Prelude.{◌≡◌, ◌∷◌, [], MatchOption, unwrap_or, MatchBool};
 ghost use Rattle.edt_base.specs.IndexData.{path_at};
 ghost use Rattle.dt_names.specs.Facts.{each, facts, titled_node};
 
@@ -39,17 +39,17 @@ impl<'a> NodesRows<'a> {
         }
     }
 
-    fn next(&mut self) -> Option<Fact<'a>>
-        ensures { MatchOption result ((self.old ≡ []) × (self.new ≡ [])) (λ x. self.old ≡ x ∷ self.new) }
+    fn next(&mut self, fact: &mut Fact<'a>) -> bool
+        ensures { MatchBool result (self.old ≡ fact.new ∷ self.new) ((self.old ≡ []) × (self.new ≡ [])) }
     {
         loop {
             if let Some(node) = &mut self.node {
-                if let Some(fact) = node.next() {
-                    return Some(fact);
+                if node.next(fact) {
+                    return true;
                 }
             }
             let Some(node) = node_from(self.bound, self.index) else {
-                return None;
+                return false;
             };
             begin_node(&mut self.node, self.bound, self.index, node);
             self.index += 1;
@@ -99,9 +99,13 @@ impl<'a> Facts<'a> {
     pub fn next(&mut self) -> Option<Fact<'a>>
         ensures { MatchOption result ((self.old ≡ []) × (self.new ≡ [])) (λ x. self.old ≡ x ∷ self.new) }
     {
-        if let Some(fact) = self.nodes.next() {
+        let mut fact = Fact::nothing(self.nodes.bound);
+        if self.nodes.next(&mut fact) {
             return Some(fact);
         }
-        self.tree.next()
+        if self.tree.next(&mut fact) {
+            return Some(fact);
+        }
+        None
     }
 }

@@ -1,6 +1,6 @@
 //! The definitions of the instances of each compatible string.
 
-ghost use Rattle.std.specs.Prelude.{◌≡◌, ◌∷◌, [], MatchOption, length, nat_lt, slice_get, take, unwrap_or, if◌then◌else◌};
+ghost use Rattle.std.specs.Prelude.{◌≡◌, ◌∷◌, [], length, nat_lt, slice_get, take, unwrap_or, if◌then◌else◌, MatchBool};
 ghost use Rattle.std.specs.List.{flat_map};
 ghost use Rattle.dt_names.specs.Facts.{each, inst_facts, okay_facts, place_fact};
 ghost use Rattle.dt_names.specs.Rows.{okay_walks};
@@ -46,11 +46,13 @@ impl<'a> PlaceRows<'a> {
         }
     }
 
-    fn next(&mut self) -> Option<Fact<'a>>
-        ensures { MatchOption result ((self.old ≡ []) × (self.new ≡ [])) (λ x. self.old ≡ x ∷ self.new) }
+    fn next(&mut self, fact: &mut Fact<'a>) -> bool
+        ensures { MatchBool result (self.old ≡ fact.new ∷ self.new) ((self.old ≡ []) × (self.new ≡ [])) }
     {
         let count = self.all.len();
-        let (id, rest) = self.rest.split_first()?;
+        let Some((id, rest)) = self.rest.split_first() else {
+            return false;
+        };
         let holds = self.index < count;
         prove!(holds);
         let row = tree_row(
@@ -62,7 +64,8 @@ impl<'a> PlaceRows<'a> {
         );
         self.index += 1;
         self.rest = rest;
-        Some(Fact::new(self.bound, row))
+        *fact = Fact::new(self.bound, row);
+        true
     }
 }
 
@@ -98,21 +101,21 @@ impl<'a> InstRows<'a> {
         }
     }
 
-    /// The next definition; None exactly after the last.
-    pub(crate) fn next(&mut self) -> Option<Fact<'a>>
-        ensures { MatchOption result ((self.old ≡ []) × (self.new ≡ [])) (λ x. self.old ≡ x ∷ self.new) }
+    /// Puts the next definition into `fact`; false exactly where none is left.
+    pub(crate) fn next(&mut self, fact: &mut Fact<'a>) -> bool
+        ensures { MatchBool result (self.old ≡ fact.new ∷ self.new) ((self.old ≡ []) × (self.new ≡ [])) }
     {
         loop {
             if let Some(places) = &mut self.places {
-                if let Some(fact) = places.next() {
-                    return Some(fact);
+                if places.next(fact) {
+                    return true;
                 }
             }
-            if let Some(fact) = self.okay.next() {
-                return Some(fact);
+            if self.okay.next(fact) {
+                return true;
             }
             let Some((inst, rest)) = self.rest.split_first() else {
-                return None;
+                return false;
             };
             let compat = inst.compat.as_str().as_bytes();
             self.places = Some(PlaceRows::new(self.bound, compat, inst.nodes.as_slice()));
@@ -148,13 +151,13 @@ impl<'a> OkayRows<'a> {
         }
     }
 
-    fn next(&mut self) -> Option<Fact<'a>>
-        ensures { MatchOption result ((self.old ≡ []) × (self.new ≡ [])) (λ x. self.old ≡ x ∷ self.new) }
+    fn next(&mut self, fact: &mut Fact<'a>) -> bool
+        ensures { MatchBool result (self.old ≡ fact.new ∷ self.new) ((self.old ≡ []) × (self.new ≡ [])) }
     {
-        if let Some(fact) = self.counts.next() {
-            return Some(fact);
+        if self.counts.next(fact) {
+            return true;
         }
-        self.walks.next()
+        self.walks.next(fact)
     }
 }
 

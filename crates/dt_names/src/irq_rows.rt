@@ -1,6 +1,6 @@
 //! The definitions of a node on its interrupts, and with them those on its registers and ranges.
 
-ghost use Rattle.std.specs.Prelude.{◌≡◌, ◌∷◌, [], MatchOption};
+ghost use Rattle.std.specs.Prelude.{◌≡◌, ◌∷◌, [], MatchBool};
 ghost use Rattle.edt_base.specs.IndexData.{path_at};
 ghost use Rattle.dt_names.specs.Facts.{each, irq_facts, entry_facts, plain};
 ghost use Rattle.dt_names.specs.Pieces.{lit, num};
@@ -51,20 +51,22 @@ impl<'a> IrqRows<'a> {
         }
     }
 
-    fn next(&mut self) -> Option<Fact<'a>>
-        ensures { MatchOption result ((self.old ≡ []) × (self.new ≡ [])) (λ x. self.old ≡ x ∷ self.new) }
+    fn next(&mut self, fact: &mut Fact<'a>) -> bool
+        ensures { MatchBool result (self.old ≡ fact.new ∷ self.new) ((self.old ≡ []) × (self.new ≡ [])) }
     {
-        if let Some(fact) = self.entry.next() {
-            return Some(fact);
+        if self.entry.next(fact) {
+            return true;
         }
         let count = self.all.len();
-        let (irq, rest) = self.rest.split_first()?;
+        let Some((irq, rest)) = self.rest.split_first() else {
+            return false;
+        };
         let holds = self.index < count;
         prove!(holds);
         begin_irq(&mut self.entry, self.bound, self.owner, self.index, irq);
         self.index += 1;
         self.rest = rest;
-        self.entry.next()
+        self.entry.next(fact)
     }
 }
 
@@ -107,19 +109,19 @@ impl<'a> RangeIrqRows<'a> {
         }
     }
 
-    fn next(&mut self) -> Option<Fact<'a>>
-        ensures { MatchOption result ((self.old ≡ []) × (self.new ≡ [])) (λ x. self.old ≡ x ∷ self.new) }
+    fn next(&mut self, fact: &mut Fact<'a>) -> bool
+        ensures { MatchBool result (self.old ≡ fact.new ∷ self.new) ((self.old ≡ []) × (self.new ≡ [])) }
     {
-        if let Some(fact) = self.range_count.next() {
-            return Some(fact);
+        if self.range_count.next(fact) {
+            return true;
         }
-        if let Some(fact) = self.ranges.next() {
-            return Some(fact);
+        if self.ranges.next(fact) {
+            return true;
         }
-        if let Some(fact) = self.irq_count.next() {
-            return Some(fact);
+        if self.irq_count.next(fact) {
+            return true;
         }
-        self.irqs.next()
+        self.irqs.next(fact)
     }
 }
 
@@ -153,17 +155,17 @@ impl<'a> ResourceRows<'a> {
         }
     }
 
-    /// The next definition; None exactly after the last.
-    pub(crate) fn next(&mut self) -> Option<Fact<'a>>
-        ensures { MatchOption result ((self.old ≡ []) × (self.new ≡ [])) (λ x. self.old ≡ x ∷ self.new) }
+    /// Puts the next definition into `fact`; false exactly where none is left.
+    pub(crate) fn next(&mut self, fact: &mut Fact<'a>) -> bool
+        ensures { MatchBool result (self.old ≡ fact.new ∷ self.new) ((self.old ≡ []) × (self.new ≡ [])) }
     {
-        if let Some(fact) = self.reg_count.next() {
-            return Some(fact);
+        if self.reg_count.next(fact) {
+            return true;
         }
-        if let Some(fact) = self.regs.next() {
-            return Some(fact);
+        if self.regs.next(fact) {
+            return true;
         }
-        self.others.next()
+        self.others.next(fact)
     }
 }
 

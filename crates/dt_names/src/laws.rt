@@ -9,9 +9,9 @@ pub fn names_are_told()
     ensures { NamesAreTold }
 {}
 
-/// Two definitions' names are spelled alike exactly where their texts of the id, of the property and of
-/// what is left are the same.
-pub(crate) fn names_have_three_texts()
+/// Two definitions' names are spelled alike exactly where their texts of the id, of the property, of what
+/// tells an entry and of what is left are the same.
+pub(crate) fn names_have_four_texts()
     ensures { NamesHaveTexts }
 {}
 

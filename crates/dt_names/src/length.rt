@@ -1,16 +1,17 @@
 //! How long names and bodies are as spelled, without spelling them.
 
-ghost use Rattle.std.specs.Prelude.{◌≡◌, ◌+◌, ◌-◌, ◌^◌, length, min};
+ghost use Rattle.std.specs.Prelude.{◌≡◌, ◌-◌, ◌^◌, length, min};
 ghost use Rattle.std.specs.List.{flat_map};
+ghost use Rattle.dt_names.specs.Left.{behind_id};
 ghost use Rattle.dt_names.specs.Lengths.{spelled_size};
-ghost use Rattle.dt_names.specs.Lists.{listed};
 ghost use Rattle.dt_names.specs.Pieces.{escaped, quoted, spell};
-ghost use Rattle.dt_names.specs.Words.{piece_of, pieces_in, word_pieces};
+ghost use Rattle.dt_names.specs.Words.{piece_of, word_pieces};
 
-use crate::list::{Listed, next_words};
+use crate::left::{AtLeft, EndingLeft};
+use crate::list::Listed;
 use crate::piece::Piece;
+use crate::pieces::next_behind;
 use crate::word::{Word, form_len};
-use crate::words::Words;
 use itoa::Buffer;
 
 /// The length of a piece as spelled, at most the greatest 64-bit number.
@@ -63,53 +64,15 @@ fn word_len(word: &Word) -> u64
     }
 }
 
-#[tactic(auto, using(crate::proofs::Lengths::none_more))]
-// The length of a word, where there is one, with so much behind it.
-fn with_word(word: &Option<Word>, behind: u64) -> u64
-    ensures { result ≡ min (spelled_size (pieces_in word.now) + behind) (2 ^ 64 - 1) }
-{
-    match word {
-        Some(word) => word_len(word).saturating_add(behind),
-        None => behind,
-    }
-}
-
-/// The length of words as spelled, at most the greatest 64-bit number.
-pub(crate) fn words_len(words: &Words) -> u64
-    ensures { result ≡ spelled_size words.now }
-{
-    let len = with_word(&words.eighth, 0);
-    let len = with_word(&words.seventh, len);
-    let len = with_word(&words.sixth, len);
-    let len = with_word(&words.fifth, len);
-    let len = with_word(&words.fourth, len);
-    let len = with_word(&words.third, len);
-    let len = with_word(&words.second, len);
-    with_word(&words.first, len)
-}
-
-#[tactic(auto, unfolding(crate::specs::Pieces::spells))]
-/// The length of a list as spelled, at most the greatest 64-bit number: time in proportion to the
-/// number of its items, whatever their lengths.
-pub(crate) fn list_len(list: Listed) -> u64
-    ensures { result ≡ spelled_size (listed list.entry) }
-{
-    match list {
-        Listed::Nothing => 0,
-        _ => items_len(list),
-    }
-}
-
-// The same, item by item.
-#[inline(never)]
-fn items_len(list: Listed) -> u64
-    ensures { result ≡ spelled_size (listed list.entry) }
+/// The length of what is left behind an id as spelled, at most the greatest 64-bit number: time in
+/// proportion to the number of its words, whatever the lengths of ids and names.
+pub(crate) fn behind_len(at: AtLeft, ending: EndingLeft, list: Listed) -> u64
+    ensures { result ≡ spelled_size (behind_id at.entry ending.entry list.entry) }
 {
     let mut len: u64 = 0;
-    let mut left = list;
-    while let Some((words, rest)) = next_words(left) {
-        len = len.saturating_add(words_len(&words));
-        left = rest;
+    let (mut at, mut ending, mut list) = (at, ending, list);
+    while let Some(word) = next_behind(&mut at, &mut ending, &mut list) {
+        len = len.saturating_add(word_len(&word));
     }
     len
 }

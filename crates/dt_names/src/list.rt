@@ -1,17 +1,16 @@
-//! What stands behind the words of a body: visits, ordinals, and values in braces.
+//! Bodies, word by word: one piece, visits, ordinals, and values in braces.
 
-ghost use Rattle.std.specs.Prelude.{◌≡◌, ◌-◌, ◌+◌, ◌<◌, ◌≤◌, ◌∷◌, ◌++◌, [], MatchOption, length};
-ghost use Rattle.std.specs.List.{range_with_len};
-ghost use Rattle.dt_names.specs.Facts.{okay_of, is_okay, between, visit, visit_end};
+ghost use Rattle.std.specs.Prelude.{◌≡◌, ◌∷◌, ◌++◌, [], MatchOption};
+ghost use Rattle.dt_names.specs.Facts.{okay_of, is_okay, between, visit_end};
 ghost use Rattle.dt_names.specs.Lists.{listed, things_of, thing_pieces, values_of};
-ghost use Rattle.dt_names.specs.Pieces.{lit};
+ghost use Rattle.dt_names.specs.Pieces.{lit, num};
 ghost use Rattle.dt_names.specs.Places.{places_in};
-ghost use Rattle.dt_names.specs.Words.{piece_of, pieces_in};
+ghost use Rattle.dt_names.specs.Words.{piece_of, word_pieces};
+ghost use Rattle.dt_names.specs.declared.list.Listed.TheVariants.{Within};
 
 use crate::piece::{Params, Piece};
 use crate::place::Places;
 use crate::word::{Id, Name, Word};
-use crate::words::Words;
 use edt_base::{Bound, NodeId, Text};
 
 /// What a body visits.
@@ -42,89 +41,131 @@ pub(crate) enum Values<'a> {
     Texts(&'a [Text]),
 }
 
-/// What stands behind the words of a body.
+/// A body, or what is left of one.
 #[derive(Clone, Copy)]
 pub(crate) enum Listed<'a> {
     /// Nothing.
     Nothing,
+    /// One piece.
+    One(Piece<'a>),
     /// A visit of each thing, as the parameters have it.
     Visits(Params, Visited<'a>),
+    /// A visit of a thing, and those behind it.
+    Open(Params, Thing<'a>, Visited<'a>),
+    /// What is left of a visit behind `fn(`, and those behind it.
+    Within(Params, Thing<'a>, Visited<'a>),
     /// The visits behind the first.
     MoreVisits(Params, Visited<'a>),
     /// Ordinals, each with a comma behind it.
     Ords(&'a [u32]),
+    /// An ordinal, and those behind it.
+    Ord(u32, &'a [u32]),
+    /// The comma behind an ordinal, and those behind it.
+    Comma(&'a [u32]),
     /// The ordinals behind the first.
     MoreOrds(&'a [u32]),
     /// Values in braces.
     Braces(Values<'a>),
+    /// A value, those behind it, and the closing brace.
+    Value(Piece<'a>, Values<'a>),
     /// The values behind the first, and the closing brace.
     MoreBraces(Values<'a>),
 }
 
-/// What is visited.
+/// What is visited, or what is left of it.
 #[derive(Clone, Copy)]
 pub(crate) enum Thing<'a> {
     /// The id of a node.
     Id(Id<'a>),
     /// An element of a property.
     Elem(Id<'a>, Name<'a>, usize),
+    /// The comma behind an element's node, the property and the place.
+    Behind(Name<'a>, usize),
+    /// An element's property and its place.
+    Named(Name<'a>, usize),
+    /// The comma behind an element's property, and the place.
+    Placed(usize),
     /// A number.
     Number(usize),
+    /// Nothing.
+    Nothing,
 }
 
-/// The next words of a list, and what is left of it then.
-pub(crate) fn next_words<'a>(list: Listed<'a>) -> Option<(Words<'a>, Listed<'a>)>
-    ensures { MatchOption result (listed list.entry ≡ [])
-        (λ r. (listed list.entry ≡ r.0 ++ listed r.1) × (0 < length r.0)) }
+/// The next word of a list, and what is left of it then; None exactly where nothing is left.
+pub(crate) fn next_of_list<'a>(list: Listed<'a>) -> Option<(Word<'a>, Listed<'a>)>
+    ensures { MatchOption result (listed list.entry ≡ []) (λ r. listed list.entry ≡ word_pieces r.0 ++ listed r.1) }
 {
     match list {
         Listed::Nothing => None,
+        Listed::One(piece) => Some((Word::One(piece), Listed::Nothing)),
         Listed::Visits(params, things) => {
             let (thing, rest) = next_thing(things)?;
-            Some((
-                visit_words(None, params, thing),
-                Listed::MoreVisits(params, rest),
-            ))
+            Some((lit("fn("), Listed::Within(params, thing, rest)))
         }
+        Listed::Open(params, thing, rest) => {
+            Some((lit("fn("), Listed::Within(params, thing, rest)))
+        }
+        Listed::Within(params, thing, rest) => Some(next_within(params, thing, rest)),
         Listed::MoreVisits(params, things) => {
             let (thing, rest) = next_thing(things)?;
-            let parted = Some(Word::One(Piece::Lit(between(params))));
-            Some((
-                visit_words(parted, params, thing),
-                Listed::MoreVisits(params, rest),
-            ))
+            Some((lit(between(params)), Listed::Open(params, thing, rest)))
         }
         Listed::Ords(ords) => {
             let (ord, rest) = ords.split_first()?;
-            let words = Words::two(
-                Word::One(Piece::Num(u128::from(*ord))),
-                Word::One(Piece::Lit(",")),
-            );
-            Some((words, Listed::MoreOrds(rest)))
+            Some((num(*ord), Listed::Comma(rest)))
         }
+        Listed::Ord(ord, rest) => Some((num(ord), Listed::Comma(rest))),
+        Listed::Comma(rest) => Some((lit(","), Listed::MoreOrds(rest))),
         Listed::MoreOrds(ords) => {
             let (ord, rest) = ords.split_first()?;
-            let words = Words::three(
-                Word::One(Piece::Lit(" ")),
-                Word::One(Piece::Num(u128::from(*ord))),
-                Word::One(Piece::Lit(",")),
-            );
-            Some((words, Listed::MoreOrds(rest)))
+            Some((lit(" "), Listed::Ord(*ord, rest)))
         }
         Listed::Braces(values) => match next_value(values) {
-            Some((value, rest)) => {
-                let words = Words::two(Word::One(Piece::Lit("{")), Word::One(value));
-                Some((words, Listed::MoreBraces(rest)))
-            }
-            None => Some((Words::one(Word::One(Piece::Lit("{}"))), Listed::Nothing)),
+            Some((value, rest)) => Some((lit("{"), Listed::Value(value, rest))),
+            None => Some((lit("{}"), Listed::Nothing)),
         },
+        Listed::Value(value, rest) => Some((Word::One(value), Listed::MoreBraces(rest))),
         Listed::MoreBraces(values) => match next_value(values) {
-            Some((value, rest)) => {
-                let words = Words::two(Word::One(Piece::Lit(", ")), Word::One(value));
-                Some((words, Listed::MoreBraces(rest)))
-            }
-            None => Some((Words::one(Word::One(Piece::Lit("}"))), Listed::Nothing)),
+            Some((value, rest)) => Some((lit(", "), Listed::Value(value, rest))),
+            None => Some((lit("}"), Listed::Nothing)),
         },
+    }
+}
+
+fn lit<'a>(text: &'static str) -> Word<'a>
+    ensures { word_pieces result ≡ lit text.now ∷ [] }
+{
+    Word::One(Piece::Lit(text))
+}
+
+fn num<'a>(number: u32) -> Word<'a>
+    ensures { word_pieces result ≡ num number ∷ [] }
+{
+    Word::One(Piece::Num(u128::from(number)))
+}
+
+// The next word of a visit that is begun, and what is left then.
+fn next_within<'a>(params: Params, thing: Thing<'a>, rest: Visited<'a>) -> (Word<'a>, Listed<'a>)
+    ensures { listed (Within params thing.entry rest.entry) ≡ word_pieces result.0 ++ listed result.1 }
+{
+    match next_of_thing(thing) {
+        Some((word, left)) => (word, Listed::Within(params, left, rest)),
+        None => (lit(visit_end(params)), Listed::MoreVisits(params, rest)),
+    }
+}
+
+// The next word of a thing, and what is left of it then.
+fn next_of_thing<'a>(thing: Thing<'a>) -> Option<(Word<'a>, Thing<'a>)>
+    ensures { MatchOption result (thing_pieces thing.entry ≡ []) (λ r. thing_pieces thing.entry ≡ word_pieces r.0 ++ thing_pieces r.1) }
+{
+    match thing {
+        Thing::Id(id) => Some((Word::Id(id), Thing::Nothing)),
+        Thing::Elem(id, name, place) => Some((Word::Id(id), Thing::Behind(name, place))),
+        Thing::Behind(name, place) => Some((lit(", "), Thing::Named(name, place))),
+        Thing::Named(name, place) => Some((Word::Name(name), Thing::Placed(place))),
+        Thing::Placed(place) => Some((lit(", "), Thing::Number(place))),
+        Thing::Number(number) => { Some((Word::One(Piece::Num(number as u128)), Thing::Nothing)) }
+        Thing::Nothing => None,
     }
 }
 
@@ -145,46 +186,6 @@ fn between(params: Params) -> &'static str
     match params {
         Params::FnSep => " DT_DEBRACKET_INTERNAL sep ",
         _ => " ",
-    }
-}
-
-// The words of a visit, behind what parts it from the one before.
-fn visit_words<'a>(parted: Option<Word<'a>>, params: Params, thing: Thing<'a>) -> Words<'a>
-    ensures { result ≡ pieces_in parted.entry ++ visit params (thing_pieces thing.entry) }
-{
-    let begin = Some(Word::One(Piece::Lit("fn(")));
-    let end = Some(Word::One(Piece::Lit(visit_end(params))));
-    match thing {
-        Thing::Id(id) => Words {
-            first: parted,
-            second: begin,
-            third: Some(Word::Id(id)),
-            fourth: end,
-            fifth: None,
-            sixth: None,
-            seventh: None,
-            eighth: None,
-        },
-        Thing::Elem(id, name, place) => Words {
-            first: parted,
-            second: begin,
-            third: Some(Word::Id(id)),
-            fourth: Some(Word::One(Piece::Lit(", "))),
-            fifth: Some(Word::Name(name)),
-            sixth: Some(Word::One(Piece::Lit(", "))),
-            seventh: Some(Word::One(Piece::Num(place as u128))),
-            eighth: end,
-        },
-        Thing::Number(number) => Words {
-            first: parted,
-            second: begin,
-            third: Some(Word::One(Piece::Num(number as u128))),
-            fourth: end,
-            fifth: None,
-            sixth: None,
-            seventh: None,
-            eighth: None,
-        },
     }
 }
 

@@ -1,6 +1,6 @@
 //! The definitions of a node on its status, its compatible strings and its bus.
 
-ghost use Rattle.std.specs.Prelude.{◌≡◌, ◌∷◌, [], MatchOption, map};
+ghost use Rattle.std.specs.Prelude.{◌≡◌, ◌∷◌, [], map, MatchBool};
 ghost use Rattle.edt_base.specs.IndexData.{path_at};
 ghost use Rattle.dt_names.specs.Facts.{marked, match_facts};
 
@@ -47,21 +47,17 @@ impl<'a> Marked<'a> {
         }
     }
 
-    /// The next definition; None exactly after the last.
-    pub(crate) fn next(&mut self) -> Option<Fact<'a>>
-        ensures { MatchOption result ((self.old ≡ []) × (self.new ≡ [])) (λ x. self.old ≡ x ∷ self.new) }
+    /// Puts the next definition into `fact`; false exactly where none is left.
+    pub(crate) fn next(&mut self, fact: &mut Fact<'a>) -> bool
+        ensures { MatchBool result (self.old ≡ fact.new ∷ self.new) ((self.old ≡ []) × (self.new ≡ [])) }
     {
-        let (word, rest) = self.rest.split_first()?;
+        let Some((word, rest)) = self.rest.split_first() else {
+            return false;
+        };
         self.rest = rest;
-        Some(Fact::new(
-            self.bound,
-            number(
-                self.owner,
-                At::Itself,
-                Ending::Word(self.mark, word.as_str().as_bytes()),
-                1,
-            ),
-        ))
+        let ending = Ending::Word(self.mark, word.as_str().as_bytes());
+        *fact = Fact::new(self.bound, number(self.owner, At::Itself, ending, 1));
+        true
     }
 }
 
@@ -116,19 +112,19 @@ impl<'a> MatchRows<'a> {
         }
     }
 
-    /// The next definition; None exactly after the last.
-    pub(crate) fn next(&mut self) -> Option<Fact<'a>>
-        ensures { MatchOption result ((self.old ≡ []) × (self.new ≡ [])) (λ x. self.old ≡ x ∷ self.new) }
+    /// Puts the next definition into `fact`; false exactly where none is left.
+    pub(crate) fn next(&mut self, fact: &mut Fact<'a>) -> bool
+        ensures { MatchBool result (self.old ≡ fact.new ∷ self.new) ((self.old ≡ []) × (self.new ≡ [])) }
     {
-        if let Some(fact) = self.status.next() {
-            return Some(fact);
+        if self.status.next(fact) {
+            return true;
         }
-        if let Some(fact) = self.compats.next() {
-            return Some(fact);
+        if self.compats.next(fact) {
+            return true;
         }
-        if let Some(fact) = self.bus.next() {
-            return Some(fact);
+        if self.bus.next(fact) {
+            return true;
         }
-        self.buses.next()
+        self.buses.next(fact)
     }
 }

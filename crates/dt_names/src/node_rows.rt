@@ -1,6 +1,6 @@
 //! All definitions of a node, in two parts: those before its properties, and those on them.
 
-ghost use Rattle.std.specs.Prelude.{◌≡◌, ◌∷◌, [], MatchOption, option_map, slice_get, unwrap_or};
+ghost use Rattle.std.specs.Prelude.{◌≡◌, ◌∷◌, [], option_map, slice_get, unwrap_or, MatchBool};
 ghost use Rattle.edt_base.specs.IndexData.{path_at};
 ghost use Rattle.dt_names.specs.Facts.{node_facts, titled, titled_node};
 ghost use Rattle.dt_names.specs.Sections.{head_facts, head_section, props_at};
@@ -48,22 +48,22 @@ impl<'a> HeadRows<'a> {
         }
     }
 
-    fn next(&mut self) -> Option<Fact<'a>>
-        ensures { MatchOption result ((self.old ≡ []) × (self.new ≡ [])) (λ x. self.old ≡ x ∷ self.new) }
+    fn next(&mut self, fact: &mut Fact<'a>) -> bool
+        ensures { MatchBool result (self.old ≡ fact.new ∷ self.new) ((self.old ≡ []) × (self.new ≡ [])) }
     {
-        if let Some(fact) = self.path.next() {
-            return Some(fact);
+        if self.path.next(fact) {
+            return true;
         }
-        if let Some(fact) = self.children.next() {
-            return Some(fact);
+        if self.children.next(fact) {
+            return true;
         }
-        if let Some(fact) = self.order.next() {
-            return Some(fact);
+        if self.order.next(fact) {
+            return true;
         }
-        if let Some(fact) = self.matches.next() {
-            return Some(fact);
+        if self.matches.next(fact) {
+            return true;
         }
-        self.resources.next()
+        self.resources.next(fact)
     }
 }
 
@@ -102,16 +102,18 @@ impl<'a> TitledHead<'a> {
         }
     }
 
-    /// The next definition; None exactly after the last.
-    pub(crate) fn next(&mut self) -> Option<Fact<'a>>
-        ensures { MatchOption result ((self.old ≡ []) × (self.new ≡ [])) (λ x. self.old ≡ x ∷ self.new) }
+    /// Puts the next definition into `fact`; false exactly where none is left.
+    pub(crate) fn next(&mut self, fact: &mut Fact<'a>) -> bool
+        ensures { MatchBool result (self.old ≡ fact.new ∷ self.new) ((self.old ≡ []) × (self.new ≡ [])) }
     {
-        let fact = self.rows.next()?;
-        let Some(title) = self.title else {
-            return Some(fact);
-        };
-        self.title = None;
-        Some(fact.titled(title))
+        if !self.rows.next(fact) {
+            return false;
+        }
+        if let Some(title) = self.title {
+            self.title = None;
+            fact.title(title);
+        }
+        true
     }
 }
 
@@ -149,14 +151,14 @@ impl<'a> TitledNode<'a> {
         }
     }
 
-    /// The next definition; None exactly after the last.
-    pub(crate) fn next(&mut self) -> Option<Fact<'a>>
-        ensures { MatchOption result ((self.old ≡ []) × (self.new ≡ [])) (λ x. self.old ≡ x ∷ self.new) }
+    /// Puts the next definition into `fact`; false exactly where none is left.
+    pub(crate) fn next(&mut self, fact: &mut Fact<'a>) -> bool
+        ensures { MatchBool result (self.old ≡ fact.new ∷ self.new) ((self.old ≡ []) × (self.new ≡ [])) }
     {
-        if let Some(fact) = self.head.next() {
-            return Some(fact);
+        if self.head.next(fact) {
+            return true;
         }
-        self.props.next()
+        self.props.next(fact)
     }
 }
 

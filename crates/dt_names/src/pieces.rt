@@ -1,23 +1,29 @@
 //! The pieces of a name or a body, one by one.
 
-ghost use Rattle.std.specs.Prelude.{◌≡◌, ◌<◌, ◌∷◌, ◌++◌, [], MatchOption, codes, length};
-ghost use Rattle.dt_names.specs.Facts.{name_first, names_pieces};
+ghost use Rattle.std.specs.Prelude.{◌≡◌, ◌∷◌, ◌++◌, [], MatchOption, codes};
+ghost use Rattle.dt_names.specs.Facts.{id_pieces, name_first, names_pieces};
 ghost use Rattle.dt_names.specs.Ids.{id_left};
+ghost use Rattle.dt_names.specs.Left.{behind_id};
 ghost use Rattle.dt_names.specs.Lengths.{spelled_size};
 ghost use Rattle.dt_names.specs.Lists.{listed};
 ghost use Rattle.dt_names.specs.Pieces.{lit, form};
+ghost use Rattle.dt_names.specs.Rows.{tail_pieces};
 ghost use Rattle.dt_names.specs.Words.{piece_of, word_pieces};
 
-use crate::length::{list_len, piece_len, words_len};
-use crate::list::{Listed, next_words};
+use crate::left::{AtLeft, EndingLeft, next_at, next_ending};
+use crate::length::{behind_len, piece_len};
+use crate::list::{Listed, next_of_list};
 use crate::piece::Piece;
-use crate::word::Word;
-use crate::words::Words;
+use crate::row::{At, Ending};
+use crate::tail::Tail;
+use crate::word::{Id, Word};
 use std::marker::Model;
 
 /// What is left of an id.
 #[derive(Clone, Copy)]
 enum IdLeft<'a> {
+    /// All of this.
+    Whole(Id<'a>),
     /// The names on what is left of the path.
     Names(&'a [u8]),
     /// A name's form, and the names behind it.
@@ -28,29 +34,67 @@ enum IdLeft<'a> {
 #[derive(Drop)]
 pub struct Pieces<'a> {
     id: IdLeft<'a>,
-    words: Words<'a>,
+    at: AtLeft<'a>,
+    ending: EndingLeft<'a>,
     list: Listed<'a>,
 }
 
 impl<'a> Model for Pieces<'a> {
     ghost use Rattle.std.specs.Prelude.{◌++◌, List};
     ghost use Rattle.dt_names.specs.Ids.{id_left};
-    ghost use Rattle.dt_names.specs.Lists.{listed};
+    ghost use Rattle.dt_names.specs.Left.{behind_id};
     ghost use Rattle.dt_names.specs.Pieces.{PieceData};
 
     ghost Value = { List PieceData };
 
-    ghost view = { λ s. id_left s.id ++ (s.words ++ listed s.list) };
+    ghost view = { λ s. id_left s.id ++ behind_id s.at s.ending s.list };
 }
 
 impl<'a> Pieces<'a> {
-    /// The pieces of words and of the list behind them.
-    pub(crate) fn new(words: Words<'a>, list: Listed<'a>) -> Pieces<'a>
-        ensures { result ≡ words.entry ++ listed list.entry }
+    /// The pieces of a name that begins with an id.
+    pub(crate) fn of_name(id: Id<'a>, tail: Tail<'a>) -> Pieces<'a>
+        ensures { result ≡ id_pieces id.entry.path.now ++ tail_pieces tail.entry }
+    {
+        Pieces {
+            id: IdLeft::Whole(id),
+            at: AtLeft::Whole(tail.at),
+            ending: EndingLeft::Whole(tail.ending),
+            list: Listed::Nothing,
+        }
+    }
+
+    /// The pieces of a name without an id, or of a part of one.
+    pub(crate) fn of_tail(tail: Tail<'a>) -> Pieces<'a>
+        ensures { result ≡ tail_pieces tail.entry }
     {
         Pieces {
             id: IdLeft::Names(&[]),
-            words,
+            at: AtLeft::Whole(tail.at),
+            ending: EndingLeft::Whole(tail.ending),
+            list: Listed::Nothing,
+        }
+    }
+
+    /// The pieces of an id.
+    pub(crate) fn of_id(id: Id<'a>) -> Pieces<'a>
+        ensures { result ≡ id_pieces id.entry.path.now }
+    {
+        Pieces {
+            id: IdLeft::Whole(id),
+            at: AtLeft::Whole(At::Itself),
+            ending: EndingLeft::Whole(Ending::Nothing),
+            list: Listed::Nothing,
+        }
+    }
+
+    /// The pieces of a list.
+    pub(crate) fn of_list(list: Listed<'a>) -> Pieces<'a>
+        ensures { result ≡ listed list.entry }
+    {
+        Pieces {
+            id: IdLeft::Names(&[]),
+            at: AtLeft::Whole(At::Itself),
+            ending: EndingLeft::Whole(Ending::Nothing),
             list,
         }
     }
@@ -60,58 +104,75 @@ impl<'a> Pieces<'a> {
     pub fn next(&mut self) -> Option<Piece<'a>>
         ensures { MatchOption result ((self.old ≡ []) × (self.new ≡ [])) (λ p. self.old ≡ piece_of p ∷ self.new) }
     {
-        if let Some((piece, left)) = next_of_id(self.id) {
-            self.id = left;
+        if let Some(piece) = next_of_id(&mut self.id) {
             return Some(piece);
         }
-        if let Some(word) = self.words.next() {
-            let (piece, left) = begun(word);
-            self.id = left;
-            return Some(piece);
-        }
-        if let Listed::Nothing = self.list {
-            return None;
-        }
-        self.list = refill(&mut self.words, self.list)?;
-        let (piece, left) = begun(self.words.next()?);
+        let word = next_behind(&mut self.at, &mut self.ending, &mut self.list)?;
+        let (piece, left) = begun(word);
         self.id = left;
         Some(piece)
     }
 
     /// How long the pieces are as spelled one behind the other, at most the greatest 64-bit number.
-    /// Doesn't walk the bytes of ids and properties' names. Takes no memory.
+    /// Doesn't walk the bytes of ids and of the names of properties and entries. Takes no memory.
     pub fn spelled_len(&self) -> u64
         ensures { result ≡ spelled_size self.now }
     {
-        id_left_len(self.id)
-            .saturating_add(words_len(&self.words))
-            .saturating_add(list_len(self.list))
+        id_left_len(self.id).saturating_add(behind_len(self.at, self.ending, self.list))
     }
 }
 
+#[inline(always)]
+/// Takes the next word of what is left behind an id; None exactly where nothing is left.
+pub(crate) fn next_behind<'a>(
+    at: &mut AtLeft<'a>,
+    ending: &mut EndingLeft<'a>,
+    list: &mut Listed<'a>,
+) -> Option<Word<'a>>
+    ensures { MatchOption result ((behind_id at.old ending.old list.old ≡ []) × (behind_id at.new ending.new list.new ≡ []))
+        (λ w. behind_id at.old ending.old list.old ≡ word_pieces w ++ behind_id at.new ending.new list.new) }
+{
+    if let Some(word) = next_at(at) {
+        return Some(word);
+    }
+    if let Some(word) = next_ending(ending) {
+        return Some(word);
+    }
+    match *list {
+        Listed::Nothing => None,
+        Listed::One(piece) => {
+            *list = Listed::Nothing;
+            Some(Word::One(piece))
+        }
+        _ => {
+            let (word, left) = next_of_list(*list)?;
+            *list = left;
+            Some(word)
+        }
+    }
+}
+
+#[tactic(auto, using(crate::proofs::Lengths::spells_id))]
 // The length of what is left of an id.
 fn id_left_len(id: IdLeft) -> u64
     ensures { result ≡ spelled_size (id_left id.entry) }
 {
-    let mut len: u64 = 0;
-    let mut left = id;
-    while let Some((piece, rest)) = next_of_id(left) {
-        len = len.saturating_add(piece_len(&piece));
-        left = rest;
+    match id {
+        IdLeft::Whole(id) => id.len(),
+        _ => names_len(id),
     }
-    len
 }
 
-#[inline(never)]
-// Puts the next words of a list in the place of others, and says what is left of the list then; None
-// where none are left, and the words stay as they are.
-fn refill<'a>(words: &mut Words<'a>, list: Listed<'a>) -> Option<Listed<'a>>
-    ensures { MatchOption result ((listed list.entry ≡ []) × (words.new ≡ words.old))
-        (λ left. (listed list.entry ≡ words.new ++ listed left) × (0 < length words.new)) }
+// The same, name by name.
+fn names_len(id: IdLeft) -> u64
+    ensures { result ≡ spelled_size (id_left id.entry) }
 {
-    let (next, left) = next_words(list)?;
-    *words = next;
-    Some(left)
+    let mut len: u64 = 0;
+    let mut left = id;
+    while let Some(piece) = next_of_id(&mut left) {
+        len = len.saturating_add(piece_len(&piece));
+    }
+    len
 }
 
 #[inline(always)]
@@ -127,16 +188,24 @@ fn begun<'a>(word: Word<'a>) -> (Piece<'a>, IdLeft<'a>)
 }
 
 #[inline(always)]
-// The next piece of an id, and what is left of it then.
-fn next_of_id<'a>(left: IdLeft<'a>) -> Option<(Piece<'a>, IdLeft<'a>)>
-    ensures { MatchOption result (id_left left.entry ≡ []) (λ r. id_left left.entry ≡ piece_of r.0 ∷ id_left r.1) }
+// Takes the next piece of an id; None exactly where nothing is left.
+fn next_of_id<'a>(left: &mut IdLeft<'a>) -> Option<Piece<'a>>
+    ensures { MatchOption result ((id_left left.old ≡ []) × (id_left left.new ≡ [])) (λ p. id_left left.old ≡ piece_of p ∷ id_left left.new) }
 {
-    match left {
+    match *left {
+        IdLeft::Whole(id) => {
+            *left = IdLeft::Names(id.path);
+            Some(Piece::Lit("DT_N"))
+        }
         IdLeft::Names(path) => {
             let (name, rest) = next_name(path)?;
-            Some((Piece::Lit("_S_"), IdLeft::Name(name, rest)))
+            *left = IdLeft::Name(name, rest);
+            Some(Piece::Lit("_S_"))
         }
-        IdLeft::Name(name, rest) => Some((Piece::Form(name), IdLeft::Names(rest))),
+        IdLeft::Name(name, rest) => {
+            *left = IdLeft::Names(rest);
+            Some(Piece::Form(name))
+        }
     }
 }
 

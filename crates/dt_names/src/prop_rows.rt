@@ -1,6 +1,6 @@
 //! The definitions of a node on its properties.
 
-ghost use Rattle.std.specs.Prelude.{◌≡◌, ◌∷◌, [], MatchOption, option_map, unwrap_or};
+ghost use Rattle.std.specs.Prelude.{◌≡◌, ◌∷◌, [], option_map, unwrap_or, MatchBool};
 ghost use Rattle.std.specs.List.{flat_map};
 ghost use Rattle.std.specs.Option.{option_map_or};
 ghost use Rattle.edt_base.specs.IndexData.{path_at};
@@ -63,23 +63,23 @@ impl<'a> PropRows<'a> {
         }
     }
 
-    /// The next definition; None exactly after the last.
-    pub(crate) fn next(&mut self) -> Option<Fact<'a>>
-        ensures { MatchOption result ((self.old ≡ []) × (self.new ≡ [])) (λ x. self.old ≡ x ∷ self.new) }
+    /// Puts the next definition into `fact`; false exactly where none is left.
+    pub(crate) fn next(&mut self, fact: &mut Fact<'a>) -> bool
+        ensures { MatchBool result (self.old ≡ fact.new ∷ self.new) ((self.old ≡ []) × (self.new ≡ [])) }
     {
-        if let Some(fact) = self.value.next() {
-            return Some(fact);
+        if self.value.next(fact) {
+            return true;
         }
-        if let Some(fact) = self.choice.next() {
-            return Some(fact);
+        if self.choice.next(fact) {
+            return true;
         }
-        if let Some(fact) = self.elems.next() {
-            return Some(fact);
+        if self.elems.next(fact) {
+            return true;
         }
-        if let Some(fact) = self.counts.next() {
-            return Some(fact);
+        if self.counts.next(fact) {
+            return true;
         }
-        self.exists.next()
+        self.exists.next(fact)
     }
 }
 
@@ -129,13 +129,13 @@ impl<'a> CountRows<'a> {
         }
     }
 
-    fn next(&mut self) -> Option<Fact<'a>>
-        ensures { MatchOption result ((self.old ≡ []) × (self.new ≡ [])) (λ x. self.old ≡ x ∷ self.new) }
+    fn next(&mut self, fact: &mut Fact<'a>) -> bool
+        ensures { MatchBool result (self.old ≡ fact.new ∷ self.new) ((self.old ≡ []) × (self.new ≡ [])) }
     {
-        if let Some(fact) = self.len.next() {
-            return Some(fact);
+        if self.len.next(fact) {
+            return true;
         }
-        self.walks.next()
+        self.walks.next(fact)
     }
 }
 
@@ -317,18 +317,18 @@ impl<'a> PropsRows<'a> {
         }
     }
 
-    /// The next definition; None exactly after the last.
-    pub(crate) fn next(&mut self) -> Option<Fact<'a>>
-        ensures { MatchOption result ((self.old ≡ []) × (self.new ≡ [])) (λ x. self.old ≡ x ∷ self.new) }
+    /// Puts the next definition into `fact`; false exactly where none is left.
+    pub(crate) fn next(&mut self, fact: &mut Fact<'a>) -> bool
+        ensures { MatchBool result (self.old ≡ fact.new ∷ self.new) ((self.old ≡ []) × (self.new ≡ [])) }
     {
         loop {
             if let Some(prop) = &mut self.prop {
-                if let Some(fact) = prop.next() {
-                    return Some(fact);
+                if prop.next(fact) {
+                    return true;
                 }
             }
             let Some((prop, rest)) = self.rest.split_first() else {
-                return None;
+                return false;
             };
             begin_prop(&mut self.prop, self.bound, self.owner, prop);
             self.rest = rest;

@@ -1,6 +1,6 @@
 //! The definitions of a node on its registers and ranges.
 
-ghost use Rattle.std.specs.Prelude.{◌≡◌, ◌∷◌, [], MatchOption, codes};
+ghost use Rattle.std.specs.Prelude.{◌≡◌, ◌∷◌, [], codes, MatchBool};
 ghost use Rattle.std.specs.Option.{option_map_or};
 ghost use Rattle.edt_base.specs.IndexData.{path_at};
 ghost use Rattle.dt_names.specs.Facts.{each, reg_lines, reg_facts, range_facts, range_lines};
@@ -10,6 +10,7 @@ ghost use Rattle.dt_names.specs.Rows.{at_pieces};
 use crate::fact::{Fact, Queue};
 use crate::row::{At, Ending};
 use crate::rows::number;
+use crate::word::Name;
 use edt_base::{Bound, Range, Reg};
 use std::marker::Model;
 
@@ -57,13 +58,13 @@ impl<'a> RegLines<'a> {
         *self = RegLines::new(bound, n, i, reg);
     }
 
-    fn next(&mut self) -> Option<Fact<'a>>
-        ensures { MatchOption result ((self.old ≡ []) × (self.new ≡ [])) (λ x. self.old ≡ x ∷ self.new) }
+    fn next(&mut self, fact: &mut Fact<'a>) -> bool
+        ensures { MatchBool result (self.old ≡ fact.new ∷ self.new) ((self.old ≡ []) × (self.new ≡ [])) }
     {
-        if let Some(fact) = self.indexed.next() {
-            return Some(fact);
+        if self.indexed.next(fact) {
+            return true;
         }
-        self.named.next()
+        self.named.next(fact)
     }
 }
 
@@ -105,21 +106,23 @@ impl<'a> RegRows<'a> {
         }
     }
 
-    /// The next definition; None exactly after the last.
-    pub(crate) fn next(&mut self) -> Option<Fact<'a>>
-        ensures { MatchOption result ((self.old ≡ []) × (self.new ≡ [])) (λ x. self.old ≡ x ∷ self.new) }
+    /// Puts the next definition into `fact`; false exactly where none is left.
+    pub(crate) fn next(&mut self, fact: &mut Fact<'a>) -> bool
+        ensures { MatchBool result (self.old ≡ fact.new ∷ self.new) ((self.old ≡ []) × (self.new ≡ [])) }
     {
-        if let Some(fact) = self.lines.next() {
-            return Some(fact);
+        if self.lines.next(fact) {
+            return true;
         }
         let count = self.all.len();
-        let (reg, rest) = self.rest.split_first()?;
+        let Some((reg, rest)) = self.rest.split_first() else {
+            return false;
+        };
         let holds = self.index < count;
         prove!(holds);
         self.lines.begin(self.bound, self.owner, self.index, reg);
         self.index += 1;
         self.rest = rest;
-        self.lines.next()
+        self.lines.next(fact)
     }
 }
 
@@ -153,12 +156,10 @@ fn named_lines<'a>(bound: &'a Bound, n: u32, reg: &'a Reg) -> Queue<'a>
     ensures { result ≡ option_map_or (λ m. reg_lines n (path_at bound.now.tree.nodes n) (lit (codes "_REG_NAME_") ∷ form m ∷ []) reg.now) reg.now.name [] }
 {
     match &reg.name {
-        Some(name) => reg_lines(
-            bound,
-            n,
-            At::Named("_REG_NAME_", name.as_str().as_bytes()),
-            reg,
-        ),
+        Some(name) => {
+            let name = Name::new(name.as_str().as_bytes());
+            reg_lines(bound, n, At::Named("_REG_NAME_", name), reg)
+        }
         None => Queue::none(bound),
     }
 }
@@ -201,21 +202,23 @@ impl<'a> RangeRows<'a> {
         }
     }
 
-    /// The next definition; None exactly after the last.
-    pub(crate) fn next(&mut self) -> Option<Fact<'a>>
-        ensures { MatchOption result ((self.old ≡ []) × (self.new ≡ [])) (λ x. self.old ≡ x ∷ self.new) }
+    /// Puts the next definition into `fact`; false exactly where none is left.
+    pub(crate) fn next(&mut self, fact: &mut Fact<'a>) -> bool
+        ensures { MatchBool result (self.old ≡ fact.new ∷ self.new) ((self.old ≡ []) × (self.new ≡ [])) }
     {
-        if let Some(fact) = self.indexed.next() {
-            return Some(fact);
+        if self.indexed.next(fact) {
+            return true;
         }
         let count = self.all.len();
-        let (range, rest) = self.rest.split_first()?;
+        let Some((range, rest)) = self.rest.split_first() else {
+            return false;
+        };
         let holds = self.index < count;
         prove!(holds);
         begin_range(&mut self.indexed, self.bound, self.owner, self.index, range);
         self.index += 1;
         self.rest = rest;
-        self.indexed.next()
+        self.indexed.next(fact)
     }
 }
 

@@ -13,14 +13,14 @@ pub(crate) enum At<'a> {
     Itself,
     /// A marker and a number.
     Nth(&'static str, usize),
-    /// A marker and the form of a word.
-    Named(&'static str, &'a [u8]),
+    /// A marker and the form of a name.
+    Named(&'static str, Name<'a>),
     /// A property.
     Prop(Name<'a>),
     /// An element of a property, by its place.
     Elem(Name<'a>, usize),
     /// An entry of a property, by its name.
-    Entry(Name<'a>, &'a [u8]),
+    Entry(Name<'a>, Name<'a>),
 }
 
 /// How a name ends.
@@ -76,6 +76,8 @@ pub(crate) struct Row<'a> {
     pub(crate) owner: u32,
     /// The name has no id: the definition is one of the tree.
     pub(crate) of_tree: bool,
+    /// The definition is on the entry that the one before it is on.
+    pub(crate) goes_on: bool,
     pub(crate) at: At<'a>,
     pub(crate) ending: Ending<'a>,
     pub(crate) params: Params,

@@ -5,7 +5,7 @@ ghost use Rattle.edt_base.specs.IndexData.{path_at};
 ghost use Rattle.edt_base.specs.NodeData.{NodeData};
 ghost use Rattle.dt_names.specs.Facts.{link, walks};
 ghost use Rattle.dt_names.specs.Pieces.{lit};
-ghost use Rattle.dt_names.specs.Rows.{at_pieces, fact_of, number_row, plain_row, things_at, tree_row, walk_row};
+ghost use Rattle.dt_names.specs.Rows.{at_pieces, cell_row, fact_of, number_row, plain_row, things_at, tree_row, walk_row};
 
 use crate::fact::Queue;
 use crate::piece::{Params, Piece};
@@ -32,6 +32,7 @@ pub(crate) fn walk<'a>(
     Row {
         owner,
         of_tree: false,
+        goes_on: false,
         at,
         ending,
         params,
@@ -44,6 +45,21 @@ pub(crate) fn number<'a>(owner: u32, at: At<'a>, ending: Ending<'a>, number: u12
     ensures { result ≡ number_row owner at.entry ending.entry number }
 {
     plain(owner, at, ending, Body::One(Piece::Num(number)))
+}
+
+/// A definition on a cell, whose body is a number: it goes on about the entry of the one before it.
+pub(crate) fn of_cell<'a>(owner: u32, at: At<'a>, ending: Ending<'a>, number: u128) -> Row<'a>
+    ensures { result ≡ cell_row owner at.entry ending.entry number }
+{
+    Row {
+        owner,
+        of_tree: false,
+        goes_on: true,
+        at,
+        ending,
+        params: Params::Plain,
+        body: Body::One(Piece::Num(number)),
+    }
 }
 
 /// The three walks of a name over things.
@@ -85,6 +101,7 @@ pub(crate) fn tree_row<'a>(
     Row {
         owner,
         of_tree: true,
+        goes_on: false,
         at,
         ending,
         params,

@@ -1,6 +1,6 @@
 //! Definitions that stand together, and what they speak of.
 
-ghost use Rattle.std.specs.Prelude.{◌≡◌, ◌∷◌, [], MatchOption, unwrap_or};
+ghost use Rattle.std.specs.Prelude.{◌≡◌, ◌∷◌, [], unwrap_or, MatchBool};
 ghost use Rattle.dt_names.specs.declared.section.Of.TheVariants.{Nothing};
 
 use crate::fact::Fact;
@@ -92,15 +92,15 @@ impl<'a> Rows<'a> {
         }
     }
 
-    /// The next definition; None exactly after the last.
-    pub(crate) fn next(&mut self) -> Option<Fact<'a>>
-        ensures { MatchOption result ((self.old ≡ []) × (self.new ≡ [])) (λ x. self.old ≡ x ∷ self.new) }
+    /// Puts the next definition into `fact`; false exactly where none is left.
+    pub(crate) fn next(&mut self, fact: &mut Fact<'a>) -> bool
+        ensures { MatchBool result (self.old ≡ fact.new ∷ self.new) ((self.old ≡ []) × (self.new ≡ [])) }
     {
         match &mut self.kind {
-            Kind::Head(rows) => rows.next(),
-            Kind::Prop(rows) => rows.next(),
-            Kind::Tree(rows) => rows.next(),
-            Kind::Nothing => None,
+            Kind::Head(rows) => rows.next(fact),
+            Kind::Prop(rows) => rows.next(fact),
+            Kind::Tree(rows) => rows.next(fact),
+            Kind::Nothing => false,
         }
     }
 }

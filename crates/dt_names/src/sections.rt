@@ -3,6 +3,7 @@
 ghost use Rattle.std.specs.Prelude.{◌≡◌, [], List, MatchOption, drop, true};
 ghost use Rattle.edt_base.specs.IndexData.{path_at};
 ghost use Rattle.dt_names.specs.Facts.{facts, id_at, prop_facts};
+ghost use Rattle.dt_names.specs.Keys.{GoOn};
 ghost use Rattle.dt_names.specs.Parts.{IsNext, IsSplit, SpeakOf, base_in, base_left, props_of, sections_left};
 ghost use Rattle.dt_names.specs.Pieces.{PieceData};
 ghost use Rattle.dt_names.specs.Sections.{AreBased, head_section, joined, props_at, tree_section};
@@ -27,7 +28,7 @@ pub(crate) struct NodeLeft<'a> {
 /// nodes from a place on, and that of the tree.
 #[derive(Clone, Copy)]
 pub(crate) struct Sections<'a> {
-    bound: &'a Bound,
+    pub(crate) bound: &'a Bound,
     node: Option<NodeLeft<'a>>,
     index: u32,
     tree: bool,
@@ -138,6 +139,7 @@ fn on_prop<'a>(bound: &'a Bound, n: u32, prop: &'a Prop) -> Section<'a>
     ensures base { (before : List PieceData) → base_in before result.of ≡ before }
     ensures based { AreBased (id_at bound.now.tree.nodes n) result.rows }
     ensures own { SpeakOf result.of result.rows }
+    ensures going { GoOn result.rows }
 {
     match shown(bound, n, prop) {
         Some(rows) => Section {
@@ -156,6 +158,7 @@ fn before_props<'a>(bound: &'a Bound, n: u32, node: &'a NodeRec) -> Section<'a>
     ensures base { (before : List PieceData) → base_in before result.of ≡ id_at bound.now.tree.nodes n }
     ensures based { AreBased (id_at bound.now.tree.nodes n) result.rows }
     ensures own { SpeakOf result.of result.rows }
+    ensures going { GoOn result.rows }
 {
     Section {
         of: Of::Node(Id::of(bound, n as usize)),
@@ -170,6 +173,7 @@ fn of_tree(bound: &Bound) -> Section<'_>
     ensures base { (before : List PieceData) → base_in before result.of ≡ [] }
     ensures based { AreBased [] result.rows }
     ensures own { SpeakOf result.of result.rows }
+    ensures going { GoOn result.rows }
 {
     Section {
         of: Of::Tree,

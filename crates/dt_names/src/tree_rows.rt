@@ -1,6 +1,6 @@
 //! The definitions of the tree: aliases, labels, chosen nodes, and the walks over all nodes.
 
-ghost use Rattle.std.specs.Prelude.{◌≡◌, ◌∷◌, [], MatchOption, codes, map};
+ghost use Rattle.std.specs.Prelude.{◌≡◌, ◌∷◌, [], codes, map, MatchBool};
 ghost use Rattle.std.specs.List.{flat_map};
 ghost use Rattle.dt_names.specs.Facts.{chosen_facts, each, helper_facts, label_facts, link, tree_facts, titled};
 
@@ -30,13 +30,16 @@ impl<'a> Model for AliasRows<'a> {
 }
 
 impl<'a> AliasRows<'a> {
-    fn next(&mut self) -> Option<Fact<'a>>
-        ensures { MatchOption result ((self.old ≡ []) × (self.new ≡ [])) (λ x. self.old ≡ x ∷ self.new) }
+    fn next(&mut self, fact: &mut Fact<'a>) -> bool
+        ensures { MatchBool result (self.old ≡ fact.new ∷ self.new) ((self.old ≡ []) × (self.new ≡ [])) }
     {
-        let (alias, rest) = self.rest.split_first()?;
+        let Some((alias, rest)) = self.rest.split_first() else {
+            return false;
+        };
         let row = link("DT_N_ALIAS_", alias.0.as_str().as_bytes(), alias.1.0);
         self.rest = rest;
-        Some(Fact::new(self.bound, row))
+        *fact = Fact::new(self.bound, row);
+        true
     }
 }
 
@@ -60,17 +63,18 @@ impl<'a> Model for LabelRows<'a> {
 }
 
 impl<'a> LabelRows<'a> {
-    fn next(&mut self) -> Option<Fact<'a>>
-        ensures { MatchOption result ((self.old ≡ []) × (self.new ≡ [])) (λ x. self.old ≡ x ∷ self.new) }
+    fn next(&mut self, fact: &mut Fact<'a>) -> bool
+        ensures { MatchBool result (self.old ≡ fact.new ∷ self.new) ((self.old ≡ []) × (self.new ≡ [])) }
     {
         loop {
             if let Some((label, rest)) = self.labels.split_first() {
                 let row = link("DT_N_NODELABEL_", label.as_str().as_bytes(), self.owner);
                 self.labels = rest;
-                return Some(Fact::new(self.bound, row));
+                *fact = Fact::new(self.bound, row);
+                return true;
             }
             let Some(node) = node_from(self.bound, self.index) else {
-                return None;
+                return false;
             };
             self.labels = node.labels.as_slice();
             self.owner = self.index;
@@ -98,13 +102,15 @@ impl<'a> Model for ChosenRows<'a> {
 }
 
 impl<'a> ChosenRows<'a> {
-    fn next(&mut self) -> Option<Fact<'a>>
-        ensures { MatchOption result ((self.old ≡ []) × (self.new ≡ [])) (λ x. self.old ≡ x ∷ self.new) }
+    fn next(&mut self, fact: &mut Fact<'a>) -> bool
+        ensures { MatchBool result (self.old ≡ fact.new ∷ self.new) ((self.old ≡ []) × (self.new ≡ [])) }
     {
-        if let Some(fact) = self.exists.next() {
-            return Some(fact);
+        if self.exists.next(fact) {
+            return true;
         }
-        let (chosen, rest) = self.rest.split_first()?;
+        let Some((chosen, rest)) = self.rest.split_first() else {
+            return false;
+        };
         let word = chosen.0.as_str().as_bytes();
         let row = link("DT_CHOSEN_", word, chosen.1.0);
         let exists = tree_row(
@@ -116,7 +122,8 @@ impl<'a> ChosenRows<'a> {
         );
         self.exists = Single::new(self.bound, Some(exists));
         self.rest = rest;
-        Some(Fact::new(self.bound, row))
+        *fact = Fact::new(self.bound, row);
+        true
     }
 }
 
@@ -179,22 +186,22 @@ impl<'a> TreeRows<'a> {
         }
     }
 
-    fn next(&mut self) -> Option<Fact<'a>>
-        ensures { MatchOption result ((self.old ≡ []) × (self.new ≡ [])) (λ x. self.old ≡ x ∷ self.new) }
+    fn next(&mut self, fact: &mut Fact<'a>) -> bool
+        ensures { MatchBool result (self.old ≡ fact.new ∷ self.new) ((self.old ≡ []) × (self.new ≡ [])) }
     {
-        if let Some(fact) = self.aliases.next() {
-            return Some(fact);
+        if self.aliases.next(fact) {
+            return true;
         }
-        if let Some(fact) = self.labels.next() {
-            return Some(fact);
+        if self.labels.next(fact) {
+            return true;
         }
-        if let Some(fact) = self.chosen.next() {
-            return Some(fact);
+        if self.chosen.next(fact) {
+            return true;
         }
-        if let Some(fact) = self.insts.next() {
-            return Some(fact);
+        if self.insts.next(fact) {
+            return true;
         }
-        self.helpers.next()
+        self.helpers.next(fact)
     }
 }
 
@@ -256,15 +263,17 @@ impl<'a> TitledTree<'a> {
         }
     }
 
-    /// The next definition; None exactly after the last.
-    pub(crate) fn next(&mut self) -> Option<Fact<'a>>
-        ensures { MatchOption result ((self.old ≡ []) × (self.new ≡ [])) (λ x. self.old ≡ x ∷ self.new) }
+    /// Puts the next definition into `fact`; false exactly where none is left.
+    pub(crate) fn next(&mut self, fact: &mut Fact<'a>) -> bool
+        ensures { MatchBool result (self.old ≡ fact.new ∷ self.new) ((self.old ≡ []) × (self.new ≡ [])) }
     {
-        let fact = self.rows.next()?;
-        let Some(title) = self.title else {
-            return Some(fact);
-        };
-        self.title = None;
-        Some(fact.titled(title.as_bytes()))
+        if !self.rows.next(fact) {
+            return false;
+        }
+        if let Some(title) = self.title {
+            self.title = None;
+            fact.title(title.as_bytes());
+        }
+        true
     }
 }

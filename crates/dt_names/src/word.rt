@@ -41,8 +41,8 @@ impl<'a> Id<'a> {
     }
 }
 
-/// The name of a property, whose form's length is known: a name can have a megabyte, and stands in
-/// the definitions of each element.
+/// The name of a property or an entry, whose form's length is known: a name can be long, and stands in
+/// the definitions of each element or cell.
 #[derive(Clone, Copy)]
 pub(crate) struct Name<'a> {
     /// The name.

@@ -11,4 +11,5 @@ returns c =
       base = sym (c.of_tree-section.ensures.base (base_left c.args.left));
       based = c.of_tree-section.ensures.based;
       own = c.of_tree-section.ensures.own;
+      going = c.of_tree-section.ensures.going;
     }

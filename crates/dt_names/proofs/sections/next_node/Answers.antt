@@ -11,4 +11,5 @@ returns c =
       base = sym (c.before_props-section.ensures.base (base_left c.args.left));
       based = c.before_props-section.ensures.based;
       own = c.before_props-section.ensures.own;
+      going = c.before_props-section.ensures.going;
     }

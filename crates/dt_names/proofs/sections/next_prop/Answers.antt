@@ -9,4 +9,5 @@ returns c = record {
   base = sym (c.on_prop-section.ensures.base (base_left c.args.left) ∙ prop_base c.args.left.bound.now.tree.nodes c.args.left.node c.args.prop.now c.args.node c.requires);
   based = c.on_prop-section.ensures.based;
   own = c.on_prop-section.ensures.own;
+  going = c.on_prop-section.ensures.going;
 }

@@ -20,18 +20,18 @@ wide_next : (F : List ℕ × ℕ → List FactData) (now before exists : List Fa
     → now ≡ fact ∷ (exists ++ (flat_map F narrow ++ flat_map F rest))
 wide_next F now before exists narrow cells rest cell fact view none past parts two = sym view ∙ rw (none, past, parts, ← two) refl
 
-pub returns-in-Some-split_first : goal.returns-in-Some-split_first
-returns-in-Some-split_first c =
+pub returns-in-Some : goal.returns-in-Some
+returns-in-Some c =
     let F = cell_facts c.self.inside.owner (path_at c.self.inside.bound.now.tree.nodes c.self.inside.owner) (at_pieces c.self.inside.at) in
-    let two : c.new.result ∷ c.new-self-inside.result ≡ F c.in-Some-split_first.cell.now =
-    rw (c.new.ensures, c.new-self-inside.ensures, c.number-value.ensures, c.number-exists.ensures, c.as_bytes-name.ensures.value, c.as_str.ensures) refl in
-    narrow_next F c.args.self.now c.self.inside.exists c.new-self-inside.result (flat_map F c.self.inside.wide.now) c.self.inside.narrow.now c.in-Some-split_first.rest.now
-    c.in-Some-split_first.cell.now c.new.result c.self.view_is c.in_default.ensures.0 c.in-Some-split_first.ensures.cases.0 two
+    let two : c.new.result ∷ c.new-self-inside.result ≡ F c.in-Some.cell.now =
+    rw (c.new.ensures, c.new-self-inside.ensures, c.of_cell-value.ensures, c.of_cell-exists.ensures, c.as_bytes-name.ensures.value, c.as_str.ensures) refl in
+    narrow_next F c.args.self.now c.self.inside.exists c.new-self-inside.result (flat_map F c.self.inside.wide.now) c.self.inside.narrow.now c.in-Some.rest.now
+    c.in-Some.cell.now c.new.result c.self.view_is c.if-next.ensures.0 c.in-Some.ensures.cases.0 two
 
 pub returns : goal.returns
 returns c =
     let F = cell_facts c.self.inside.owner (path_at c.self.inside.bound.now.tree.nodes c.self.inside.owner) (at_pieces c.self.inside.at) in
-    let two : c.new-2.result ∷ c.new-self-inside-2.result ≡ F c.in_ok-cell.cell.now =
-    rw (c.new-2.ensures, c.new-self-inside-2.ensures, c.number-value-2.ensures, c.number-exists-2.ensures, c.as_bytes-name-2.ensures.value, c.as_str-2.ensures) refl in
-    wide_next F c.args.self.now c.self.inside.exists c.new-self-inside-2.result c.self.inside.narrow.now c.self.inside.wide.now c.in_ok-cell.rest.now
-    c.in_ok-cell.cell.now c.new-2.result c.self.view_is c.in_default.ensures.0 (no_cells c.self.inside.narrow.now c.in_default-split_first.ensures.cases) c.in_ok-cell.ensures.cases.0 two
+    let two : c.new-2.result ∷ c.new-self-inside-2.result ≡ F c.in-Some-split_first.cell.now =
+    rw (c.new-2.ensures, c.new-self-inside-2.ensures, c.of_cell-value-2.ensures, c.of_cell-exists-2.ensures, c.as_bytes-name-2.ensures.value, c.as_str-2.ensures) refl in
+    wide_next F c.args.self.now c.self.inside.exists c.new-self-inside-2.result c.self.inside.narrow.now c.self.inside.wide.now c.in-Some-split_first.rest.now
+    c.in-Some-split_first.cell.now c.new-2.result c.self.view_is c.if-next.ensures.0 (no_cells c.self.inside.narrow.now c.in_default.ensures.cases) c.in-Some-split_first.ensures.cases.0 two

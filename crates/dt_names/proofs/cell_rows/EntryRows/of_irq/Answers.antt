@@ -18,4 +18,5 @@ named_irq n path i e m one two name first second =
 pub returns-in-Some : goal.returns-in-Some
 returns-in-Some c =
     named_irq c.args.n (path_at c.args.bound.now.tree.nodes c.args.n) c.args.i c.args.irq.now c.in-Some.name.now c.of_irq-indexed.result c.of_irq.result
-    (sym c.in-Some.ensures) c.of_irq-indexed.ensures c.of_irq.ensures
+    (sym c.in-Some.ensures) c.of_irq-indexed.ensures
+    (c.of_irq.ensures ∙ ap (λ w. irq_lines c.args.n (path_at c.args.bound.now.tree.nodes c.args.n) (lit (codes "_IRQ_NAME_") ∷ form w ∷ []) c.args.irq.now) c.new.ensures)
