@@ -1,10 +1,9 @@
 -- Behind the greatest place no double is met.
-use Rattle.std.proofs.Common.{◌≡◌, ◌==◌, ◌+◌, ◌^◌, ◌<◌, ◌≤◌, ◌∙◌, ℕ, Bool, true, false, List, [], ◌∷◌, get_or, ap, refl, arith, if◌then◌else◌}
+use Rattle.std.proofs.Common.{◌≡◌, ◌==◌, ◌+◌, ◌<◌, ◌∙◌, ℕ, false, List, [], ◌∷◌, get_or, ap, refl, arith}
 use Rattle.std.proofs.lemmas.Bool.Decides.{nat_tests}
 use Rattle.edt_base.specs.BoundData.{BoundData}
 use Rattle.dt_names.specs.Facts.{FactData, facts}
-use Rattle.head_write.specs.Header.{behind, entries, entries_from, is_first}
-use Rattle.head_write.specs.declared.entry.Entry.{Entry}
+use Rattle.head_write.specs.Header.{entries, entries_from}
 
 -- a place above a number isn't it
 apart : (place d : ℕ) → d < place → (place == d) ≡ false

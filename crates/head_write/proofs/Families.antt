@@ -1,8 +1,8 @@
 -- A root with two children is a tree, and can be bound.
-use Rattle.std.proofs.Common.{◌≡◌, ◌∙◌, ◌+◌, ◌++◌, ◌||◌, ◌<◌, ◌∷◌, [], ℕ, zero, suc, Bool, true, false, List, Option, Some, None, codes, length, slice_get, refl, sym, ap, subst, arith}
+use Rattle.std.proofs.Common.{◌≡◌, ◌∙◌, ◌+◌, ◌++◌, ◌||◌, ◌<◌, ◌∷◌, [], ℕ, zero, suc, Bool, true, false, List, Some, None, codes, length, slice_get, refl, sym, ap, subst, arith}
 use Rattle.std.specs.List.{All}
 use Rattle.std.specs.Str.{bytes_eq}
-use Rattle.std.proofs.lemmas.List.Elements.{All-nil, All-cons, All-same}
+use Rattle.std.proofs.lemmas.List.Elements.{All-nil, All-cons}
 use Rattle.std.proofs.lemmas.List.Sorted.{IsPermutation-refl}
 use Rattle.std.proofs.lemmas.Option.{same_Some}
 use Rattle.std.proofs.lemmas.Slice.Eq.{bytes_eq-Decides}
@@ -12,7 +12,7 @@ use Rattle.edt_base.specs.EntryData.{EntryData}
 use Rattle.edt_base.specs.InstData.{InstData}
 use Rattle.edt_base.specs.NodeData.{NodeData, has_label, phandle_of}
 use Rattle.edt_base.specs.PropData.{IsTyped}
-use Rattle.edt_base.specs.TreeData.{TreeData, IsWellFormed, IsAtOrAbove, itself, further, IsKindOf, parent_of, children_of, child_path}
+use Rattle.edt_base.specs.TreeData.{TreeData, IsWellFormed, IsAtOrAbove, itself, further, IsKindOf, children_of, child_path}
 use Rattle.edt_base.specs.declared.node.Part.{Part}
 use Rattle.head_write.specs.Family.{parent_node, child_node, unbound_node, AreFamily}
 

@@ -1,8 +1,8 @@
 -- The nodes of a root with two children, for the tests.
-use Rattle.std.specs.Prelude.{◌≡◌, ◌++◌, ◌<◌, ℕ, List, [], ◌∷◌, Some, None, All, codes}
+use Rattle.std.specs.Prelude.{◌++◌, ◌<◌, ℕ, List, [], ◌∷◌, Some, None, All, codes}
 use Rattle.edt_base.specs.BoundNodeData.{BoundNodeData}
 use Rattle.edt_base.specs.NodeData.{NodeData}
-use Rattle.edt_base.specs.TreeData.{TreeData, IsWellFormed}
+use Rattle.edt_base.specs.TreeData.{IsWellFormed}
 
 -- the root
 unfoldable pub parent_node : NodeData

@@ -67,7 +67,7 @@ pub(crate) fn flush<S: Sink>(out: &mut S, block: &mut Block) -> Result<(), Write
     Ok(())
 }
 
-#[inline]
+#[inline(always)]
 /// Puts a piece behind what is held, which goes to the sink first where there is no room for both; a
 /// piece longer than a block goes out by itself.
 pub(crate) fn put<S: Sink>(out: &mut S, block: &mut Block, piece: &[u8]) -> Result<(), WriteFailed>
@@ -76,6 +76,14 @@ pub(crate) fn put<S: Sink>(out: &mut S, block: &mut Block, piece: &[u8]) -> Resu
     if block.hold(piece) {
         return Ok(());
     }
+    put_behind_all(out, block, piece)
+}
+
+#[inline(never)]
+// The same, once what is held went to the sink.
+fn put_behind_all<S: Sink>(out: &mut S, block: &mut Block, piece: &[u8]) -> Result<(), WriteFailed>
+    ensures { Put (S.seen out.old) (S.seen out.new) block.old block.new piece.now (is_ok result) }
+{
     flush(out, block)?;
     if block.hold(piece) {
         return Ok(());

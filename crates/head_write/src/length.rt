@@ -59,10 +59,9 @@ fn line_len(fact: &Fact<'_>) -> u64
 }
 
 // The length of a body with a space before it.
-fn body_len(body: Pieces<'_>) -> u64
+fn body_len(mut body: Pieces<'_>) -> u64
     ensures { result ≡ min (length (body_text body.entry)) (2 ^ 64 - 1) }
 {
-    let mut body = body;
     let len = body.spelled_len();
     match body.next() {
         Some(_) => len.saturating_add(1),

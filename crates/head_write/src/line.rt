@@ -72,10 +72,13 @@ pub(crate) fn params_text(params: Params) -> &'static str
 }
 
 // Puts a body with a space before it; nothing for an empty one.
-fn put_body<S: Sink>(out: &mut S, block: &mut Block, body: Pieces<'_>) -> Result<(), WriteFailed>
+fn put_body<S: Sink>(
+    out: &mut S,
+    block: &mut Block,
+    mut body: Pieces<'_>,
+) -> Result<(), WriteFailed>
     ensures { Put (S.seen out.old) (S.seen out.new) block.old block.new (body_text body.entry) (is_ok result) }
 {
-    let mut body = body;
     match body.next() {
         None => Ok(()),
         Some(first) => {

@@ -1,6 +1,6 @@
 //! Pieces of names and bodies as text.
 
-ghost use Rattle.std.specs.Prelude.{is_ok, ◌≡◌};
+ghost use Rattle.std.specs.Prelude.{is_ok, ◌≡◌, ◌≤◌, length, option_to_list};
 ghost use Rattle.std.specs.List.{flat_map};
 ghost use Rattle.edt_base.specs.Marks.{form_byte, form_char, form_of};
 ghost use Rattle.dt_names.specs.Pieces.{escaped, quoted, spell, spells};
@@ -8,19 +8,22 @@ ghost use Rattle.dt_names.specs.Words.{piece_of};
 ghost use Rattle.head_write.specs.Put.{Put};
 
 use crate::block::{Block, put, put_byte};
+use arrayvec::ArrayVec;
 use dt_names::{Piece, Pieces};
 use edt_base::{Sink, WriteFailed};
 use itoa::Buffer;
+
+/// How many bytes of a name are turned into its form at once.
+const CHUNK: usize = 64;
 
 /// Puts pieces, spelled one behind the other.
 pub(crate) fn put_pieces<S: Sink>(
     out: &mut S,
     block: &mut Block,
-    pieces: Pieces<'_>,
+    mut pieces: Pieces<'_>,
 ) -> Result<(), WriteFailed>
     ensures { Put (S.seen out.old) (S.seen out.new) block.old block.new (spells pieces.entry) (is_ok result) }
 {
-    let mut pieces = pieces;
     while let Some(piece) = pieces.next() {
         put_piece(out, block, piece)?;
     }
@@ -45,39 +48,58 @@ pub(crate) fn put_piece<S: Sink>(
 }
 
 #[tactic(auto, unfolding(edt_base::specs::Marks::form_of))]
-// Puts the form of a text.
+// Puts the form of a text, a chunk at a time.
 fn put_form<S: Sink>(out: &mut S, block: &mut Block, text: &[u8]) -> Result<(), WriteFailed>
     ensures { Put (S.seen out.old) (S.seen out.new) block.old block.new (form_of text.now) (is_ok result) }
 {
-    for byte in text {
-        put_form_char(out, block, *byte)?;
+    let mut left = text;
+    while !left.is_empty() {
+        let (chunk, rest) = left.split_at(left.len().min(CHUNK));
+        put(out, block, chunk_form(chunk).as_slice())?;
+        left = rest;
     }
     Ok(())
 }
 
 #[inline(always)]
-// Puts what a byte gives to the form of its text.
-fn put_form_char<S: Sink>(out: &mut S, block: &mut Block, byte: u8) -> Result<(), WriteFailed>
-    ensures { Put (S.seen out.old) (S.seen out.new) block.old block.new (form_char byte) (is_ok result) }
+#[tactic(auto, unfolding(edt_base::specs::Marks::form_of))]
+// The form of a chunk of a text.
+fn chunk_form(chunk: &[u8]) -> ArrayVec<u8, 64>
+    requires { length chunk.now ≤ 64 }
+    ensures { result.items ≡ form_of chunk.now }
+{
+    let mut form = ArrayVec::new();
+    for byte in chunk {
+        if let Some(char) = form_char(*byte) {
+            form.push(char);
+        }
+    }
+    form
+}
+
+#[inline(always)]
+// What a byte gives to the form of its text.
+fn form_char(byte: u8) -> Option<u8>
+    ensures { option_to_list result ≡ form_char byte }
 {
     if byte < 128 {
-        put_byte(out, block, form_byte(byte))
+        Some(form_byte(byte))
     } else if byte < 192 {
-        Ok(())
+        None
     } else {
-        put_byte(out, block, b'_')
+        Some(b'_')
     }
 }
 
 #[inline(always)]
-// The form of an ASCII character.
+// The form of an ASCII character, told without branches: a name's characters come in no order.
 fn form_byte(byte: u8) -> u8
     ensures { result ≡ form_byte byte }
 {
-    match byte {
-        b'A'..=b'Z' => byte + 32,
-        b'a'..=b'z' | b'0'..=b'9' => byte,
-        _ => b'_',
+    if byte.is_ascii_alphanumeric() {
+        byte.to_ascii_lowercase()
+    } else {
+        b'_'
     }
 }
 

@@ -1,4 +1,4 @@
-use Rattle.std.proofs.Common.{◌≡◌, ◌∙◌, ◌++◌, ℕ, List, codes, ap, sym}
+use Rattle.std.proofs.Common.{◌≡◌, ◌∙◌, ◌++◌, ℕ, List, codes, ap}
 use Rattle.dt_names.specs.Facts.{FactData, full_name}
 use Rattle.dt_names.specs.Pieces.{spells}
 use Rattle.head_write.specs.Header.{body_text, line, params_text}

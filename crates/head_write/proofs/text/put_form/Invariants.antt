@@ -1,9 +1,13 @@
-use Rattle.std.proofs.Common.{take, true}
-use Rattle.std.specs.List.{flat_map}
-use Rattle.edt_base.specs.Marks.{form_char}
+use Rattle.std.proofs.Common.{◌≡◌, ◌++◌, List, ℕ, length, true}
+use Rattle.edt_base.specs.Marks.{form_of}
 use Rattle.head_write.specs.Put.{Put}
 use Rattle.head_write.proofs.text.put_form.Given as goal
 
-abbrev pub invariant-loop-byte : goal.invariant-loop-byte
-invariant-loop-byte g l =
-    Put (g.S.Sink.seen l.initial.out) (g.S.Sink.seen l.out) l.initial.block l.block (flat_map form_char (take l.byte-index l.text)) true
+-- the form so far was put, and that of what is left is the rest
+abbrev pub invariant-loop-left : goal.invariant-loop-left
+invariant-loop-left g l =
+    (text : List ℕ) × (text ++ form_of l.left ≡ form_of l.text)
+    × Put (g.S.Sink.seen l.initial.out) (g.S.Sink.seen l.out) l.initial.block l.block text true
+
+abbrev pub decreases-loop-left : goal.decreases-loop-left
+decreases-loop-left g l = length l.left

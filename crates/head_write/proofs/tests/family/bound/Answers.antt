@@ -1,5 +1,4 @@
-use Rattle.std.proofs.Common.{◌≡◌, ◌∙◌, ◌∷◌, [], List, ap}
-use Rattle.edt_base.specs.BoundNodeData.{BoundNodeData}
+use Rattle.std.proofs.Common.{◌∙◌}
 use Rattle.head_write.proofs.Families.{family_bound, same_three}
 use Rattle.head_write.proofs.tests.family.bound.Goals as goal
 

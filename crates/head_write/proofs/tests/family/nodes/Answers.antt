@@ -1,4 +1,4 @@
-use Rattle.std.proofs.Common.{◌≡◌, ◌∙◌, ap, length}
+use Rattle.std.proofs.Common.{◌∙◌, ap, length}
 use Rattle.head_write.proofs.Families.{family_of, same_three}
 use Rattle.head_write.proofs.tests.family.nodes.Goals as goal
 

@@ -1,4 +1,4 @@
-use Rattle.std.proofs.Common.{inl, inr}
+use Rattle.std.proofs.Common.{inl}
 use Rattle.head_write.proofs.Roots.{typed_behind}
 use Rattle.head_write.proofs.tests.roots.add.Goals as goal
 

@@ -3,7 +3,7 @@ use Rattle.std.proofs.lemmas.Bool.{false≢true}
 use Rattle.edt_base.specs.Outside.{SinkSeen, Wrote}
 use Rattle.head_write.specs.Put.{Put}
 use Rattle.head_write.proofs.Puts.{put_then, not_done, put_stops, flush_puts, write_puts, failed}
-use Rattle.head_write.proofs.block.put.Goals as goal
+use Rattle.head_write.proofs.block.put_behind_all.Goals as goal
 
 -- what was held didn't go out
 flush_fails : (a b : SinkSeen) (held kept left text : List ℕ) (done : Bool) → done ≡ false → kept ≡ held → Wrote a b kept false → Put a b held left text done
@@ -21,19 +21,16 @@ written a b c held kept empty left text done same before none still after =
 
 pub returns-in_err-flush : goal.returns-in_err-flush
 returns-in_err-flush g c =
-    let same : c.hold.new.self ≡ c.args.block.now = search rules in
     flush_fails (g.S.Sink.seen c.args.out.now) (g.S.Sink.seen c.flush.new.out) _ _ _ _ _
-    (failed c.from_residual.result c.from_residual.ensures.0) same c.in_err-flush.ensures.wrote
+    (failed c.from_residual.result c.from_residual.ensures.0) refl c.in_err-flush.ensures.wrote
 
 pub returns-in_err-write_text : goal.returns-in_err-write_text
 returns-in_err-write_text g c =
-    let same : c.hold.new.self ≡ c.args.block.now = search rules in
-    let still : c.hold-2.new.self ≡ c.flush.new.block = search rules in
+    let still : c.hold.new.self ≡ c.flush.new.block = search rules in
     not_done _ _ _ _ _ _ (failed c.from_residual-in_err-write_text.result c.from_residual-in_err-write_text.ensures.0)
-    (written _ (g.S.Sink.seen c.flush.new.out) _ _ _ _ _ _ _ same c.in_ok-flush.ensures.wrote c.in_ok-flush.ensures.emptied still c.in_err-write_text.ensures)
+    (written _ (g.S.Sink.seen c.flush.new.out) _ _ _ _ _ _ _ refl c.in_ok-flush.ensures.wrote c.in_ok-flush.ensures.emptied still c.in_err-write_text.ensures)
 
 pub returns : goal.returns
 returns g c =
-    let same : c.hold.new.self ≡ c.args.block.now = search rules in
-    let still : c.hold-2.new.self ≡ c.flush.new.block = search rules in
-    written _ (g.S.Sink.seen c.flush.new.out) _ _ _ _ _ _ _ same c.in_ok-flush.ensures.wrote c.in_ok-flush.ensures.emptied still c.in_ok-write_text.ensures
+    let still : c.hold.new.self ≡ c.flush.new.block = search rules in
+    written _ (g.S.Sink.seen c.flush.new.out) _ _ _ _ _ _ _ refl c.in_ok-flush.ensures.wrote c.in_ok-flush.ensures.emptied still c.in_ok-write_text.ensures
