@@ -3,6 +3,8 @@
 # root alone, at each doubling of what is bound to it: once with registers alone and once with properties of several
 # types, entries, interrupts and instances, up to headers of 18 and 38 MB. All three are to grow no faster than the
 # header, and `clash` is to take well under a second for 200,000 definitions. No definition clashes or is repeated.
+# Behind these one interrupt with a name of a megabyte and many cells: its header would have up to 200 GB and is only
+# searched and measured, neither of which is to spell the name for each cell.
 #
 # The repository's programs needn't call them for this: a small program that does is added to a copy of the
 # crates, and is proved and built there. What was proved here before isn't proved again. With KEEP=FOLDER the program
@@ -26,6 +28,7 @@ cat >"$heading/src/main.rt" <<'R'
 //! measuring and writing take.
 #![tactic(auto)]
 
+mod long;
 mod mixed;
 mod root;
 
@@ -68,16 +71,35 @@ fn definitions(bound: &Bound) -> u64 {
     count
 }
 
+fn told(found: &Clash) -> &'static str {
+    match found {
+        Clash::At(_) => "clash",
+        Clash::Doubles(places) => if places.is_empty() { "none" } else { "doubles" },
+    }
+}
+
+// Without writing.
+fn time_search(rt: HostRuntime, of: &str, bound: &Bound) -> Result<(), Fail> {
+    let alloc = rt.alloc();
+    let count = definitions(bound);
+    let before = Instant::now(&rt)?;
+    let found = clash(alloc, bound)?;
+    let searched = before.elapsed(&rt)?.as_micros();
+    let found = told(&found);
+    let before = Instant::now(&rt)?;
+    let len = measure(bound);
+    let measured = before.elapsed(&rt)?.as_micros();
+    println!(rt; "{of:>9} {count:>11} {len:>13} {:>9} {found:>8} {searched:>10} {measured:>11} {:>9}", "-", "-")?;
+    Ok(())
+}
+
 fn time(rt: HostRuntime, of: &str, bound: &Bound) -> Result<(), Fail> {
     let alloc = rt.alloc();
     let count = definitions(bound);
     let before = Instant::now(&rt)?;
     let found = clash(alloc, bound)?;
     let searched = before.elapsed(&rt)?.as_micros();
-    let found = match found {
-        Clash::At(_) => "clash",
-        Clash::Doubles(places) => if places.is_empty() { "none" } else { "doubles" },
-    };
+    let found = told(&found);
     let before = Instant::now(&rt)?;
     let len = measure(bound);
     let measured = before.elapsed(&rt)?.as_micros();
@@ -86,7 +108,7 @@ fn time(rt: HostRuntime, of: &str, bound: &Bound) -> Result<(), Fail> {
     emit(bound, &mut sink)?;
     let written = before.elapsed(&rt)?.as_micros();
     let held = sink.bytes().len();
-    println!(rt; "{of:>9} {count:>11} {len:>9} {held:>9} {found:>8} {searched:>10} {measured:>11} {written:>9}")?;
+    println!(rt; "{of:>9} {count:>11} {len:>13} {held:>9} {found:>8} {searched:>10} {measured:>11} {written:>9}")?;
     Ok(())
 }
 
@@ -97,6 +119,9 @@ fn main(rt: HostRuntime) -> Result<(), Fail> {
     }
     for count in [375, 750, 1_500, 3_000, 6_000] {
         time(rt, "mixed", &mixed::root(alloc, count)?)?;
+    }
+    for count in [6_250, 12_500, 25_000, 50_000, 100_000] {
+        time_search(rt, "long name", &long::root(alloc, count)?)?;
     }
     Ok(())
 }
@@ -221,6 +246,50 @@ pub(crate) fn add_choices(
         choices,
     })?;
     Ok(())
+}
+R
+cat >"$heading/src/long.rt" <<'R'
+//! Roots with one interrupt that has a name of a megabyte and many cells.
+
+ghost use Rattle.std.specs.Prelude.{◌<◌, All, IfOk};
+ghost use Rattle.edt_base.specs.EntryData.{EntryData};
+
+use crate::root::{bare, bound, text};
+use edt_base::{Bound, Irq, NodeId, Text};
+use std::alloc::{AllocError, Global};
+
+fn long_name(alloc: Global) -> Result<Text, AllocError> {
+    let mut name = String::new(alloc);
+    for _ in 0..1_000_000 {
+        name.push('n')?;
+    }
+    Ok(Text::new(name))
+}
+
+fn cells(alloc: Global, count: u32) -> Result<Vec<(Text, u64)>, AllocError> {
+    let mut cells = Vec::with_capacity(alloc, count as usize)?;
+    for at in 0..count {
+        let name = format!(in alloc; "cell-{at}")?;
+        cells.push((text(alloc, name.as_str())?, u64::from(at)))?;
+    }
+    Ok(cells)
+}
+
+fn interrupts(alloc: Global, count: u32) -> Result<Vec<Irq>, AllocError>
+    ensures { IfOk result (λ irqs. All (λ (irq : EntryData). irq.controller < 1) irqs.items) }
+{
+    let irq = Irq {
+        controller: NodeId(0),
+        cells: cells(alloc, count)?,
+        name: Some(long_name(alloc)?),
+    };
+    Ok(vec![in alloc; irq]?)
+}
+
+pub(crate) fn root(alloc: Global, count: u32) -> Result<Bound, AllocError> {
+    let mut node = bare(alloc);
+    node.irqs = interrupts(alloc, count)?;
+    bound(alloc, node, Vec::new(alloc))
 }
 R
 cat >"$heading/src/mixed.rt" <<'R'
@@ -403,5 +472,5 @@ if [ ! -x "$program" ]; then
     exit 1
 fi
 [ -z "${KEEP:-}" ] || cp "$program" "$KEEP/heading"
-printf '%9s %11s %9s %9s %8s %10s %11s %9s\n' bound definitions measured written found 'clash, us' 'measure, us' 'emit, us'
+printf '%9s %11s %13s %9s %8s %10s %11s %9s\n' bound definitions measured written found 'clash, us' 'measure, us' 'emit, us'
 "$program"
