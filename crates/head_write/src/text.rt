@@ -16,6 +16,7 @@ use itoa::Buffer;
 /// How many bytes of a name are turned into its form at once.
 const CHUNK: usize = 64;
 
+#[inline(always)]
 /// Puts pieces, spelled one behind the other.
 pub(crate) fn put_pieces<S: Sink>(
     out: &mut S,
