@@ -5,7 +5,7 @@ use Rattle.std.proofs.lemmas.Bool.{cases_Bool, and_parts, ltb-true}
 use Rattle.std.proofs.lemmas.Grind.{common_steps}
 use Rattle.std.proofs.lemmas.Bool.Decides.{nat_tests, Decides-eqb}
 use Rattle.std.proofs.lemmas.Slice.Eq.{starts_is}
-use Rattle.dts_lex.specs.Bytes.{is_hex, is_octal, is_plain, begins_label}
+use Rattle.edt_base.specs.SourceBytes.{is_hex, is_octal, is_plain, begins_label}
 use Rattle.dts_lex.specs.Between.{gap, enter}
 use Rattle.dts_lex.specs.declared.between.Between.{Between}
 use Rattle.dts_lex.specs.Names.{is_path}

@@ -1,7 +1,7 @@
 -- What stands between tokens: blanks, comments and skipped lines.
 use Rattle.std.specs.Prelude.{ℕ, zero, suc, Bool, true, false, ◌&&◌, ◌||◌, List, [], ◌∷◌, Option, Some, None, nat_eq, codes, if◌then◌else◌}
 use Rattle.std.specs.List.{starts_with}
-use Rattle.dts_lex.specs.Bytes.{is_blank, is_digit}
+use Rattle.edt_base.specs.SourceBytes.{is_blank, is_digit}
 use Rattle.dts_lex.specs.declared.between.Between.{Between}
 use Rattle.dts_lex.specs.declared.between.Between.TheVariants.{LineStart, Within, Line, Opening, Comment, Closing}
 

@@ -1,4 +1,3 @@
-pub mod Bytes
 pub mod Left
 pub mod Between
 pub mod Names

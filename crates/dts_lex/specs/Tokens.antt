@@ -1,7 +1,7 @@
 -- The tokens of a source: which one stands where, and what is open behind it.
 use Rattle.std.specs.Prelude.{◌≡◌, ℕ, zero, suc, ◌+◌, ◌-◌, max, Bool, true, false, ◌&&◌, ◌||◌, not, List, [], ◌∷◌, Option, Some, None, Result, Ok, Err, nat_eq, nat_lt, nat_le, drop, take, length, codes, option_map, if◌then◌else◌}
 use Rattle.std.specs.List.{prefix_len, starts_with}
-use Rattle.dts_lex.specs.Bytes.{is_plain, is_wide, is_hex, is_octal, begins_label}
+use Rattle.edt_base.specs.SourceBytes.{is_plain, is_wide, is_hex, is_octal, begins_label}
 use Rattle.dts_lex.specs.Between.{gap, start}
 use Rattle.dts_lex.specs.Names.{is_path}
 use Rattle.dts_lex.specs.Left.{Left}

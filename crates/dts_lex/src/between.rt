@@ -2,7 +2,7 @@
 
 ghost use Rattle.std.specs.Prelude.{◌≡◌, ◌≤◌, length};
 ghost use Rattle.dts_lex.specs.Between.{closes, closes_behind, enter, enter_within, gap, marks_place, skips, start};
-ghost use Rattle.dts_lex.specs.Bytes.{is_blank};
+ghost use Rattle.edt_base.specs.SourceBytes.{is_blank};
 
 use crate::words::{is_blank, is_digit};
 

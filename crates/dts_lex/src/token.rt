@@ -2,7 +2,7 @@
 
 ghost use Rattle.std.specs.Prelude.{◌≡◌, ◌≤◌, ◌<◌, ◌+◌, length, option_map, drop, take, true, false, IfSome, IsTrue};
 ghost use Rattle.std.specs.List.{prefix_len};
-ghost use Rattle.dts_lex.specs.Bytes.{is_hex, is_octal};
+ghost use Rattle.edt_base.specs.SourceBytes.{is_hex, is_octal};
 ghost use Rattle.dts_lex.specs.Counts.{IsKnown};
 ghost use Rattle.dts_lex.specs.Tokens.{at_colon, at_pair, at_quote, at_word, behind, char, char_size, escape, escapes, found, in_rounds, is_narrow, is_no_brace, is_word_byte, mark, pair, path_reference, quoted, reference, sized, stands, text, word};
 

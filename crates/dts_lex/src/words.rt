@@ -2,7 +2,7 @@
 
 ghost use Rattle.std.specs.Prelude.{◌≡◌, ◌≤◌, length};
 ghost use Rattle.std.specs.List.{prefix_len};
-ghost use Rattle.dts_lex.specs.Bytes.{begins_label, is_blank, is_digit, is_hex, is_letter, is_node_byte, is_octal, is_plain, is_prop_byte, is_wide};
+ghost use Rattle.edt_base.specs.SourceBytes.{begins_label, is_blank, is_digit, is_hex, is_letter, is_node_byte, is_octal, is_plain, is_prop_byte, is_wide};
 ghost use Rattle.dts_lex.specs.Tokens.{is_word_byte};
 
 pub(crate) fn is_blank(byte: u8) -> bool

@@ -2,7 +2,7 @@
 use Rattle.std.proofs.Common.{◌≡◌, ℕ, Bool, true, false, ◌&&◌, List, [], ◌∷◌, Option, Some, None, refl, nat_eq, nat_lt, drop, take, codes, if◌then◌else◌}
 use Rattle.std.specs.List.{list_all, prefix_len, starts_with}
 use Rattle.std.specs.Str.{bytes_eq}
-use Rattle.dts_lex.specs.Bytes.{is_digit, is_hex, is_octal}
+use Rattle.edt_base.specs.SourceBytes.{is_digit, is_hex, is_octal}
 use Rattle.dts_lex.specs.declared.lexer.SpanKind.{SpanKind}
 use Rattle.dts_lex.specs.declared.lexer.SpanKind.TheVariants as kind
 use Rattle.dts_parse.specs.Numbers.{digits_worth, is_suffix, number, number_of_digits, number_sign}

@@ -1,7 +1,7 @@
 -- Numbers: decimal, octal with a leading 0 or hexadecimal behind `0x`, and a suffix U, L, UL, LL or ULL in either case.
 use Rattle.std.specs.Prelude.{ℕ, ◌+◌, ◌*◌, ◌^◌, Bool, true, false, ◌&&◌, ◌||◌, List, [], ◌∷◌, Option, Some, None, nat_eq, nat_lt, drop, take, codes, if◌then◌else◌}
 use Rattle.std.specs.List.{prefix_len, starts_with}
-use Rattle.dts_lex.specs.Bytes.{is_digit, is_octal, is_hex}
+use Rattle.edt_base.specs.SourceBytes.{is_digit, is_octal, is_hex}
 use Rattle.dts_parse.specs.Texts.{digit}
 use Rattle.dts_parse.specs.declared.sign.Sign.{Sign}
 use Rattle.dts_parse.specs.declared.sign.Sign.TheVariants as sign

@@ -1,7 +1,7 @@
 -- What numbers, characters, texts and references stand for.
 use Rattle.std.specs.Prelude.{ℕ, zero, suc, ◌+◌, ◌-◌, ◌*◌, ◌%◌, ◌^◌, Bool, true, false, ◌&&◌, ◌||◌, List, [], ◌∷◌, ◌++◌, Option, Some, None, nat_eq, nat_lt, nat_le, drop, take, length, if◌then◌else◌}
 use Rattle.std.specs.Int.{w16, w64, to_be_bytes}
-use Rattle.dts_lex.specs.Bytes.{is_octal, is_hex}
+use Rattle.edt_base.specs.SourceBytes.{is_octal, is_hex}
 use Rattle.dts_lex.specs.Tokens.{escape}
 use Rattle.dts_parse.specs.declared.script.Target.{Target}
 use Rattle.dts_parse.specs.declared.script.Target.TheVariants as target

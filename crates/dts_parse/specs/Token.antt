@@ -1,7 +1,7 @@
 -- Tokens as the grammar sees them.
 use Rattle.std.specs.Prelude.{◌≡◌, ℕ, Bool, true, false, List, Option, Some, None, nat_lt, if◌then◌else◌}
 use Rattle.std.specs.List.{list_all}
-use Rattle.dts_lex.specs.Names.{is_label, is_node_name, is_prop_name}
+use Rattle.edt_base.specs.SourceNames.{is_label, is_node_name, is_prop_name}
 use Rattle.dts_parse.specs.declared.expr.BinOp.{BinOp}
 use Rattle.dts_parse.specs.declared.expr.BinOp.TheVariants as op
 use Rattle.dts_parse.specs.declared.expr.UnOp.{UnOp}

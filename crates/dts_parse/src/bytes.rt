@@ -1,7 +1,7 @@
 //! Bytes and digits.
 
 ghost use Rattle.std.specs.Prelude.{◌≡◌, ◌≤◌, ◌<◌, ◌-◌, ◌+◌, ◌*◌, ◌%◌, if◌then◌else◌};
-ghost use Rattle.dts_lex.specs.Bytes.{begins_label, is_digit, is_hex, is_letter, is_node_byte, is_octal, is_plain, is_prop_byte};
+ghost use Rattle.edt_base.specs.SourceBytes.{begins_label, is_digit, is_hex, is_letter, is_node_byte, is_octal, is_plain, is_prop_byte};
 ghost use Rattle.dts_parse.specs.Texts.{digit};
 ghost use Rattle.dts_parse.specs.Token.{is_ascii};
 

@@ -2,8 +2,8 @@
 
 ghost use Rattle.std.specs.Prelude.{◌≡◌, ◌≤◌, length};
 ghost use Rattle.std.specs.List.{list_all, prefix_len};
-ghost use Rattle.dts_lex.specs.Names.{is_label, is_no_sign, is_node_name, is_node_word, is_prop_name, is_unit};
-ghost use Rattle.dts_lex.specs.Bytes.{is_node_byte, is_plain, is_prop_byte};
+ghost use Rattle.edt_base.specs.SourceNames.{is_label, is_no_sign, is_node_name, is_node_word, is_prop_name, is_unit};
+ghost use Rattle.edt_base.specs.SourceBytes.{is_node_byte, is_plain, is_prop_byte};
 ghost use Rattle.dts_parse.specs.Token.{form_of, is_ascii, name_form};
 
 use crate::bytes::{begins_label, is_ascii, is_node_byte, is_plain, is_prop_byte};

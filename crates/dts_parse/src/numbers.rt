@@ -2,7 +2,7 @@
 
 ghost use Rattle.std.specs.Prelude.{◌≡◌, ◌≤◌, ◌<◌, Some, length, drop, take};
 ghost use Rattle.std.specs.List.{prefix_len};
-ghost use Rattle.dts_lex.specs.Bytes.{is_digit, is_hex, is_octal};
+ghost use Rattle.edt_base.specs.SourceBytes.{is_digit, is_hex, is_octal};
 ghost use Rattle.dts_parse.specs.Numbers.{digits_worth, is_l, is_long, is_suffix, is_u, number, number_of_digits, number_sign, with_digit};
 ghost use Rattle.dts_parse.specs.Texts.{digit};
 

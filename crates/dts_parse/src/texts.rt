@@ -2,7 +2,7 @@
 
 ghost use Rattle.std.specs.Prelude.{◌≡◌, ◌≤◌, ◌<◌, ◌-◌, ◌+◌, ◌*◌, ◌%◌, ◌++◌, ◌∷◌, [], IfOk, OnOk, length, take, drop};
 ghost use Rattle.std.specs.List.{prefix_len};
-ghost use Rattle.dts_lex.specs.Bytes.{is_hex, is_octal};
+ghost use Rattle.edt_base.specs.SourceBytes.{is_hex, is_octal};
 ghost use Rattle.dts_lex.specs.Tokens.{escape};
 ghost use Rattle.dts_parse.specs.Texts.{char_worth, digit, escaped, hexes, hexes_two, letter, octal, octal_two, pair_worth, text_bytes, two_digits, unescaped, within};
 

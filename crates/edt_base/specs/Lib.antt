@@ -10,6 +10,8 @@ pub mod Memory
 pub mod NodeData
 pub mod Outside
 pub mod PropData
+pub mod SourceBytes
+pub mod SourceNames
 pub mod TreeData
 pub mod ValData
 pub mod YamlData
