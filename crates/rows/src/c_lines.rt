@@ -49,11 +49,7 @@ fn lines_of(alloc: Global, text: &[u8]) -> Result<String, AllocError> {
 }
 
 /// Says where a line that was refused isn't refused again.
-fn refused_again(
-    alloc: Global,
-    lines: &mut Lines<'_>,
-    out: &mut String,
-) -> Result<(), AllocError> {
+fn refused_again(alloc: Global, lines: &mut Lines<'_>, out: &mut String) -> Result<(), AllocError> {
     let number = lines.number();
     for _ in 0..2 {
         match lines.next(alloc) {

@@ -7,6 +7,7 @@
 mod c_lines;
 mod expansions;
 mod orders;
+mod plain_expansion;
 mod records;
 mod runs;
 mod scripts;

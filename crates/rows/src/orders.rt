@@ -47,7 +47,9 @@ fn needs_of(alloc: Global, text: &str) -> Result<Vec<Vec<NodeId>>, AllocError> {
             };
             if let Ok(number) = digits.parse::<u32>() {
                 let id = from.saturating_add(u64::from(number));
-                if let Ok(id) = u32::try_from(id) && (from == 0 || u64::from(id) < count) {
+                if let Ok(id) = u32::try_from(id)
+                    && (from == 0 || u64::from(id) < count)
+                {
                     ids.push(NodeId(id))?;
                 }
             }

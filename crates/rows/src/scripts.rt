@@ -9,9 +9,7 @@
 //!   in a cell. The answer is what each is worth.
 
 use crate::table::Row;
-use dts_parse::{
-    Act, BinOp, Expr, RawCell, RawPart, Script, Stmt, Target, UnOp, eval, parse,
-};
+use dts_parse::{Act, BinOp, Expr, RawCell, RawPart, Script, Stmt, Target, UnOp, eval, parse};
 use edt_base::{End, Kind, Place, Rule, Text};
 use std::alloc::{AllocError, Global};
 

@@ -1,15 +1,14 @@
-//! Expansion as ISO C, 6.10.3 states it, by recursion over lists of tokens: slow and plain, for tests.
+//! Expansion as ISO C, 6.10.3 states it, by recursion over lists of tokens: slow and plain, with a list
+//! of names for each barred set. `expand` is compared with it.
 
-use crate::def::Def;
-use crate::defs::Defs;
-use crate::tokens::{copy_tok, is_punct, is_va_args, is_word};
+use c_macro::{Def, Defs};
 use c_tokens::{CEnd, Tok, TokKind, kind_of};
 use edt_base::{Rule, Text};
 use std::alloc::{AllocError, Global};
 
 /// A token and the names that are barred for it.
 #[derive(Drop)]
-pub(crate) struct PlainTok {
+pub struct PlainTok {
     pub tok: Tok,
     bars: Vec<Text>,
 }
@@ -29,12 +28,32 @@ struct Both {
     full: Vec<PlainTok>,
 }
 
-/// A call's arguments, its closing bracket and what follows.
+/// A call's arguments, its closing parenthesis and what follows.
 #[derive(Drop)]
 struct PlainCall<'a> {
     args: Vec<Vec<PlainTok>>,
     last: &'a PlainTok,
     rest: &'a [PlainTok],
+}
+
+fn is_word(tok: &Tok) -> bool {
+    tok.kind == TokKind::Ident
+}
+
+fn is_punct(spelling: &str, tok: &Tok) -> bool {
+    tok.kind == TokKind::Punct && tok.spell.as_str() == spelling
+}
+
+fn is_va_args(tok: &Tok) -> bool {
+    is_word(tok) && tok.spell.as_str() == "__VA_ARGS__"
+}
+
+fn copy_tok(alloc: Global, tok: &Tok) -> Result<Tok, AllocError> {
+    Ok(Tok {
+        spell: tok.spell.copy(alloc)?,
+        kind: tok.kind,
+        spaced: tok.spaced,
+    })
 }
 
 fn copy_names(alloc: Global, names: &[Text]) -> Result<Vec<Text>, AllocError> {
@@ -81,7 +100,7 @@ fn merged(alloc: Global, a: &[Text], b: &[Text], both: bool) -> Result<Vec<Text>
 }
 
 /// A text's tokens: nothing is barred for them.
-pub(crate) fn unbarred(alloc: Global, toks: &[Tok]) -> Result<Vec<PlainTok>, AllocError> {
+pub fn unbarred(alloc: Global, toks: &[Tok]) -> Result<Vec<PlainTok>, AllocError> {
     let mut plain = Vec::new(alloc);
     for tok in toks {
         plain.push(PlainTok {
@@ -110,7 +129,7 @@ fn param_of(def: &Def, tok: &Tok) -> Option<usize> {
     }
 }
 
-/// The arguments behind a call's bracket, `None` where it isn't closed.
+/// The arguments after a call's parenthesis, `None` where it isn't closed.
 fn plain_call<'a>(
     alloc: Global,
     def: &Def,
@@ -123,7 +142,7 @@ fn plain_call<'a>(
     let mut rest = toks;
     for p in toks {
         rest = match rest.split_first() {
-            Some((_, behind)) => behind,
+            Some((_, after)) => after,
             None => rest,
         };
         if is_punct(")", &p.tok) && deep == 0 {
@@ -197,7 +216,7 @@ fn string_of(alloc: Global, written: &[PlainTok], spaced: bool) -> Result<PlainT
     })
 }
 
-/// Puts an argument's tokens behind the sides that are there; beside a `##` it may be an empty side.
+/// Puts an argument's tokens after the sides that are there; beside a `##` it may be an empty side.
 fn push_arg(
     alloc: Global,
     sides: &mut Vec<Side>,
@@ -301,7 +320,7 @@ fn joined(alloc: Global, sides: Vec<Side>) -> Result<Vec<Side>, CEnd> {
     Ok(done)
 }
 
-/// What stands in the place of a name, and behind it the rest.
+/// What stands in the place of a name, and after it the rest.
 fn placed(
     alloc: Global,
     name: &PlainTok,
@@ -328,7 +347,7 @@ fn placed(
 }
 
 /// What tokens come to by these definitions, in at most `fuel` steps, and C7 beyond.
-pub(crate) fn plain(
+pub fn plain(
     alloc: Global,
     defs: &Defs,
     toks: &[PlainTok],
@@ -354,8 +373,8 @@ pub(crate) fn plain(
             )?;
             return plain(alloc, defs, new.as_slice(), fuel - 1);
         };
-        if let Some((bracket, inner)) = rest.split_first() {
-            if is_punct("(", &bracket.tok) {
+        if let Some((open, inner)) = rest.split_first() {
+            if is_punct("(", &open.tok) {
                 let Some(call) = plain_call(alloc, def, names.len(), inner)? else {
                     return Err(CEnd::Rule(Rule::C2));
                 };

@@ -1,4 +1,4 @@
-use Rattle.c_macro.proofs.plain.+plain.Given as goal
+use Rattle.rows.proofs.plain_expansion.+plain.Given as goal
 
 abbrev pub decreases-plain : goal.decreases-plain
 decreases-plain l = l.fuel

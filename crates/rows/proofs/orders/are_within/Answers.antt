@@ -1,6 +1,6 @@
 use Rattle.std.proofs.Common.{length, sym, ◌∙◌}
 use Rattle.dep_order.proofs.Turning.{within_more, within_all}
-use Rattle.dep_order.proofs.tests.are_within.Goals as goal
+use Rattle.rows.proofs.orders.are_within.Goals as goal
 
 pub loop-ids-preserved : goal.loop-ids-preserved
 loop-ids-preserved c = within_more c.args.needs.now c.loop-ids.ids-index c.ids-item.result c.as_slice.result.now (length c.args.needs.now)
