@@ -5,7 +5,7 @@
 //! - `shown` is a text. The answer has the tokens of its first line with one space between them.
 //! - `token` is a text. The answer is the kind of the one token that it is.
 
-use crate::table::Row;
+use crate::table::{Row, text_of};
 use c_tokens::{CEnd, Line, Lines, TokKind, kind_of, show};
 use edt_base::MemSink;
 use std::alloc::{AllocError, Global};
@@ -76,16 +76,12 @@ fn shown(alloc: Global, text: &[u8]) -> Result<Option<String>, AllocError> {
     let mut sink = MemSink::new(alloc, 1000, 3, Vec::new(alloc))?;
     match Lines::new(text).next(alloc) {
         Ok(Some(line)) => match show(&line.toks, &mut sink) {
-            Ok(()) => Ok(Some(text_of(alloc, sink.bytes())?)),
+            Ok(()) => Ok(Some(String::from_str(alloc, text_of(sink.bytes()))?)),
             Err(_) => Ok(None),
         },
         Ok(None) | Err(CEnd::Rule(_)) => Ok(None),
         Err(CEnd::Memory(e)) => Err(e),
     }
-}
-
-fn text_of(alloc: Global, bytes: &[u8]) -> Result<String, AllocError> {
-    String::from_str(alloc, str::from_utf8(bytes).unwrap_or("no UTF-8"))
 }
 
 fn letter(kind: TokKind) -> &'static str {

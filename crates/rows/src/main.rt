@@ -6,6 +6,7 @@
 
 mod c_lines;
 mod expansions;
+mod objects;
 mod orders;
 mod plain_expansion;
 mod records;
@@ -23,6 +24,7 @@ use table::{Row, rows};
 /// A layer with a table of rows.
 #[derive(Clone, Copy)]
 enum Layer {
+    EdtBase,
     DtsLex,
     DtsParse,
     YamlProfile,
@@ -33,7 +35,8 @@ enum Layer {
     EdtRun,
 }
 
-const LAYERS: [Layer; 8] = [
+const LAYERS: [Layer; 9] = [
+    Layer::EdtBase,
     Layer::DtsLex,
     Layer::DtsParse,
     Layer::YamlProfile,
@@ -48,6 +51,7 @@ impl Layer {
     /// The name of its table's file.
     fn table(self) -> &'static str {
         match self {
+            Layer::EdtBase => "edt_base.rows",
             Layer::DtsLex => "dts_lex.rows",
             Layer::DtsParse => "dts_parse.rows",
             Layer::YamlProfile => "yaml_profile.rows",
@@ -62,6 +66,7 @@ impl Layer {
     /// The layer's answer to a row; none where the row doesn't ask for anything.
     fn answer(self, alloc: Global, row: &Row) -> Result<Option<String>, AllocError> {
         match self {
+            Layer::EdtBase => objects::answer(alloc, row),
             Layer::DtsLex => source_tokens::answer(alloc, row),
             Layer::DtsParse => scripts::answer(alloc, row),
             Layer::YamlProfile => yaml_values::answer(alloc, row),

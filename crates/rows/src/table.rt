@@ -178,6 +178,22 @@ fn digit(byte: u8) -> Option<u8> {
     }
 }
 
+/// The numbers of a field, with blanks between them.
+pub fn numbers_of(alloc: Global, row: &Row, name: &str) -> Result<Vec<u32>, AllocError> {
+    let mut numbers = Vec::new(alloc);
+    for word in row.text(name).unwrap_or("").split(' ') {
+        if let Ok(number) = word.parse::<u32>() {
+            numbers.push(number)?;
+        }
+    }
+    Ok(numbers)
+}
+
+/// Bytes as text, where they are.
+pub fn text_of(bytes: &[u8]) -> &str {
+    str::from_utf8(bytes).unwrap_or("no UTF-8")
+}
+
 /// The rows of a table.
 pub fn rows(alloc: Global, table: &str) -> Result<Vec<Row>, AllocError> {
     let mut rows = Vec::new(alloc);
