@@ -5,10 +5,10 @@
 //! - `before` and `locked` are directives, those of `before` applied before the names are locked. The
 //!   answer says of each directive of `locked` whether it is good.
 
-use crate::plain_expansion::{plain, unbarred};
 use crate::table::Row;
 use c_macro::{Defs, expand};
 use c_tokens::{CEnd, Lines, Tok};
+use plain::{expand_plainly, unbarred};
 use std::alloc::{AllocError, Global};
 
 /// How many steps the plain body may take, and how long a text it is given: it is slow.
@@ -67,7 +67,7 @@ fn push_expanded(alloc: Global, text: &[u8], plainly: bool, out: &mut String) ->
         }
         if plainly {
             let toks = unbarred(alloc, line.toks.as_slice())?;
-            for p in plain(alloc, &defs, toks.as_slice(), MOST_STEPS)?.iter() {
+            for p in expand_plainly(alloc, &defs, toks.as_slice(), MOST_STEPS)?.iter() {
                 push_tok(&p.tok, out)?;
             }
         } else {

@@ -8,7 +8,6 @@ mod c_lines;
 mod expansions;
 mod objects;
 mod orders;
-mod plain_expansion;
 mod records;
 mod runs;
 mod scripts;

@@ -347,7 +347,7 @@ fn placed(
 }
 
 /// What tokens come to by these definitions, in at most `fuel` steps, and C7 beyond.
-pub fn plain(
+pub fn expand_plainly(
     alloc: Global,
     defs: &Defs,
     toks: &[PlainTok],
@@ -371,7 +371,7 @@ pub fn plain(
                 sides(alloc, def, &[])?,
                 rest,
             )?;
-            return plain(alloc, defs, new.as_slice(), fuel - 1);
+            return expand_plainly(alloc, defs, new.as_slice(), fuel - 1);
         };
         if let Some((open, inner)) = rest.split_first() {
             if is_punct("(", &open.tok) {
@@ -384,7 +384,7 @@ pub fn plain(
                 let mut both = Vec::new(alloc);
                 for (number, written) in args.into_iter().enumerate() {
                     let full = if is_full(def, number) {
-                        plain(alloc, defs, written.as_slice(), fuel - 1)?
+                        expand_plainly(alloc, defs, written.as_slice(), fuel - 1)?
                     } else {
                         Vec::new(alloc)
                     };
@@ -403,13 +403,13 @@ pub fn plain(
                     sides(alloc, def, both.as_slice())?,
                     call.rest,
                 )?;
-                return plain(alloc, defs, new.as_slice(), fuel - 1);
+                return expand_plainly(alloc, defs, new.as_slice(), fuel - 1);
             }
         }
     }
     let mut out = Vec::new(alloc);
     out.push(copy_plain(alloc, first, first.tok.spaced)?)?;
-    let more = plain(alloc, defs, rest, fuel - 1)?;
+    let more = expand_plainly(alloc, defs, rest, fuel - 1)?;
     push_all(alloc, &mut out, more.as_slice())?;
     Ok(out)
 }

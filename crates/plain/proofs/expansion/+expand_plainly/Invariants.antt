@@ -1,7 +1,7 @@
-use Rattle.rows.proofs.plain_expansion.+plain.Given as goal
+use Rattle.plain.proofs.expansion.+expand_plainly.Given as goal
 
-abbrev pub decreases-plain : goal.decreases-plain
-decreases-plain l = l.fuel
+abbrev pub decreases-expand_plainly : goal.decreases-expand_plainly
+decreases-expand_plainly l = l.fuel
 
 abbrev pub invariant-loop-number : goal.invariant-loop-number
 invariant-loop-number l =
