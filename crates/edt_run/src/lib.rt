@@ -8,8 +8,6 @@ mod laws;
 mod node;
 mod piece;
 mod reader;
-#[cfg(test)]
-mod tests;
 mod token;
 mod top;
 mod trail;
