@@ -1,9 +1,8 @@
 -- How a node's properties are found by their names.
-use Rattle.std.proofs.Common.{◌≡◌, ◌∙◌, ℕ, zero, suc, ◌+◌, ◌<◌, ◌≤◌, Bool, true, false, cond, List, [], ◌∷◌, ◌++◌, take, Option, Some, None, length, map, get_or, slice_get, option_map, unwrap_or, IsSomeAnd, refl, sym, ap, subst, ⊎_elim, arith, nat_eq}
-use Rattle.std.specs.declared.cmp.Ordering.{Ordering}
+use Rattle.std.proofs.Common.{◌≡◌, ◌∙◌, ℕ, zero, suc, ◌+◌, ◌<◌, ◌≤◌, Bool, true, false, cond, List, [], ◌∷◌, ◌++◌, take, Option, Some, None, length, get_or, slice_get, option_map, unwrap_or, IsSomeAnd, refl, sym, ap, subst, ⊎_elim, arith, nat_eq}
 use Rattle.std.specs.declared.cmp.Ordering.TheVariants.{Less, Equal, Greater}
 use Rattle.std.specs.List.{AllZip, HoldsAt, range_with_len, Contains}
-use Rattle.std.specs.List.Sorted.{IsPermutation, IsSortedByKey, IsPartitionPoint}
+use Rattle.std.specs.List.Sorted.{IsPartitionPoint}
 use Rattle.std.specs.Map.{lookup}
 use Rattle.std.specs.Ordering.{nat_cmp}
 use Rattle.std.specs.Cmp.{tied_itself}

@@ -12,7 +12,7 @@ use Rattle.edt_base.specs.EntryData.{EntryData}
 use Rattle.edt_base.specs.PropData.{PropData, IsTyped}
 use Rattle.edt_base.specs.NodeData.{NodeData}
 use Rattle.edt_base.specs.TreeData.{TreeData, IsWellFormed, IsKindOf}
-use Rattle.edt_base.specs.BoundNodeData.{BoundNodeData, IsBoundNode, IsBare}
+use Rattle.edt_base.specs.BoundNodeData.{BoundNodeData, IsBoundNode}
 use Rattle.edt_base.specs.BoundData.{IsBound}
 use Rattle.edt_base.specs.Instances.{AreInstances, IsInst}
 
@@ -55,6 +55,15 @@ root_alone n bare = record {
 
     orphan : (m : NodeData) (p : ℕ) → n ≡ m → m.parent ≡ Some p → ⊥
     orphan m p same up = let e : n.parent ≡ m.parent = ap (λ (b : NodeData). b.parent) same in let f = bare.parent in cc
+
+-- a node to which nothing is bound and whose ordinal is 0
+pub record IsBare (n : BoundNodeData) : Type 0 where
+  pub props : n.props ≡ []
+  pub irqs : n.irqs ≡ []
+  pub needs : n.needs ≡ []
+  pub supports : n.supports ≡ []
+  pub bus : n.bus ≡ None
+  pub ord : n.ord ≡ 0
 
 -- no texts are in order
 no_order : {K : Type 0} (c : K → K → Ordering) → IsStrictlySortedBy c []

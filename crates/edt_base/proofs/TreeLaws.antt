@@ -1,12 +1,13 @@
 -- What follows from the order of a tree's nodes.
-use Rattle.std.proofs.Common.{◌≡◌, ◌∙◌, ℕ, zero, suc, ◌+◌, ◌<◌, ◌≤◌, List, [], ◌∷◌, Option, Some, None, length, slice_get, IfSome, IsSomeAnd, option_and_then, option_map, unwrap_or, refl, sym, ap, subst, arith}
+use Rattle.std.proofs.Common.{◌≡◌, ◌∙◌, ℕ, zero, suc, ◌+◌, ◌<◌, ◌≤◌, Bool, true, false, if◌then◌else◌, List, [], ◌∷◌, Option, Some, None, length, slice_get, slice_index, IfSome, IsSomeAnd, option_and_then, option_map, unwrap_or, refl, sym, ap, subst, arith}
 use Rattle.std.specs.List.{All}
+use Rattle.std.specs.List.Sorted.{IsStrictlyIncreasing}
 use Rattle.std.specs.Option.{option_map_or}
 use Rattle.std.proofs.lemmas.List.Elements.{All-nil}
 use Rattle.std.proofs.lemmas.Option.{slice_get_within}
-use Rattle.edt_base.specs.NodeData.{NodeData}
+use Rattle.edt_base.specs.NodeData.{NodeData, holds_number}
 use Rattle.edt_base.specs.Nodes.{children_at}
-use Rattle.edt_base.specs.TreeData.{TreeData, IsWellFormed, IsAtOrAbove, itself, further, parent_of, ancestors, ancestors_within}
+use Rattle.edt_base.specs.TreeData.{TreeData, IsWellFormed, IsAtOrAbove, itself, further, children_from, parent_of, ancestors, ancestors_within}
 
 -- the node that has the parent
 with_parent : (nodes : List NodeData) (i p : ℕ) (o : Option NodeData) → slice_get nodes i ≡ o → option_and_then (λ (n : NodeData). n.parent) o ≡ Some p
@@ -89,3 +90,33 @@ children_there t i well within = by_node (slice_get t.nodes i) refl
 pub parent_is : (t : TreeData) (i : ℕ) (o : Option ℕ) → IsWellFormed t → o ≡ parent_of t.nodes i → i < length t.nodes → IfSome o (λ p. p < i) × IfSome o (λ p. p < length t.nodes)
 parent_is t i None well e within = (tt, tt)
 parent_is t i (Some p) well e within = let l : p < i = before t i p well (sym e) in (l, omega arith)
+
+-- ---- the order of children
+
+-- at least this, and rising
+abbrev RisesFrom : ℕ → List ℕ → Type 0
+RisesFrom least [] = Unit {0}
+RisesFrom least (x ∷ xs) = (least ≤ x) × RisesFrom (x + 1) xs
+
+lower : (least higher : ℕ) (xs : List ℕ) → least ≤ higher → RisesFrom higher xs → RisesFrom least xs
+lower least higher [] le r = tt
+lower least higher (x ∷ xs) le r = (omega (arith, le, r.0), r.1)
+
+either : (first : ℕ) (xs : List ℕ) (b : Bool) → RisesFrom (first + 1) xs → RisesFrom first (if b then first ∷ xs else xs)
+either first xs true r = (omega arith, r)
+either first xs false r = lower first (first + 1) xs (omega arith) r
+
+children_from_rise : (first : ℕ) (ns : List NodeData) (i : ℕ) → RisesFrom first (children_from first ns i)
+children_from_rise first [] i = tt
+children_from_rise first (n ∷ ns) i = either first (children_from (first + 1) ns i) (holds_number i n.parent) (children_from_rise (first + 1) ns i)
+
+rising : (least : ℕ) (xs : List ℕ) → RisesFrom least xs → IsStrictlyIncreasing xs
+rising least [] r k l = absurd (omega arith)
+rising least (x ∷ []) r k l = absurd (omega arith)
+rising least (x ∷ y ∷ ys) r zero l = let h : x + 1 ≤ y = r.1.0 in omega arith
+rising least (x ∷ y ∷ ys) r (suc k) l =
+    let e : suc (k + 1) ≡ suc k + 1 = omega arith in
+    subst (λ n. slice_index (y ∷ ys) k < slice_index (x ∷ y ∷ ys) n) e (rising (x + 1) (y ∷ ys) r.1 k (omega arith))
+
+pub children_of_rise : (t : TreeData) (i : ℕ) (n : NodeData) → IsWellFormed t → slice_get t.nodes i ≡ Some n → IsStrictlyIncreasing n.children
+children_of_rise t i n well at = subst IsStrictlyIncreasing (sym (well.children i n at)) (rising 0 (children_from 0 t.nodes i) (children_from_rise 0 t.nodes i))

@@ -1,5 +1,5 @@
 -- A bound node, as contracts see it, and what every one keeps.
-use Rattle.std.specs.Prelude.{◌≡◌, ◌<◌, ℕ, List, [], Option, Some, None, All, IfSome, map}
+use Rattle.std.specs.Prelude.{◌<◌, ℕ, List, [], Option, Some, None, All, IfSome, map}
 use Rattle.std.specs.Cmp.Lexicographic.{slice_cmp}
 use Rattle.std.specs.List.Sorted.{IsStrictlyIncreasing, IsStrictlySortedBy}
 use Rattle.std.specs.Ordering.{nat_cmp}
@@ -43,12 +43,3 @@ pub record IsBoundNode (count : ℕ) (n : BoundNodeData) : Type 0 where
 abbrev pub buses_on : Option ℕ → List (List ℕ) → List (List ℕ)
 buses_on None buses = []
 buses_on (Some up) buses = buses
-
--- a node to which nothing is bound, the first in the order of dependencies
-pub record IsBare (n : BoundNodeData) : Type 0 where
-  pub props : n.props ≡ []
-  pub irqs : n.irqs ≡ []
-  pub needs : n.needs ≡ []
-  pub supports : n.supports ≡ []
-  pub bus : n.bus ≡ None
-  pub ord : n.ord ≡ 0

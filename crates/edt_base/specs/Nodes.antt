@@ -1,5 +1,5 @@
 -- What is read of a tree's nodes by their places.
-use Rattle.std.specs.Prelude.{ℕ, Bool, false, List, [], Option, None, codes, filter, option_map, option_and_then, slice_get, unwrap_or}
+use Rattle.std.specs.Prelude.{ℕ, Bool, false, List, [], Option, codes, filter, option_map, option_and_then, slice_get, unwrap_or}
 use Rattle.std.specs.Option.{option_map_or}
 use Rattle.std.specs.Str.{bytes_eq}
 use Rattle.edt_base.specs.NodeData.{NodeData, prop_of}

@@ -41,7 +41,7 @@ pub enum PropType {
 }
 
 /// An entry of a phandle-array: a controller and the cells of its specifier, after all nexus maps.
-#[derive(Debug, Drop)]
+#[derive(Drop)]
 pub struct Entry {
     /// The node at which the specifier ends.
     pub controller: NodeId,
@@ -61,7 +61,7 @@ impl Model for Entry {
 
 /// An interrupt that a node raises: the controller and the cells of its specifier, after all
 /// interrupt maps.
-#[derive(Debug, Drop)]
+#[derive(Drop)]
 pub struct Irq {
     /// The interrupt controller.
     pub controller: NodeId,
@@ -81,7 +81,7 @@ impl Model for Irq {
 }
 
 /// A register block, an entry of `reg` (Devicetree Specification v0.4, 2.3.6).
-#[derive(Debug, Drop)]
+#[derive(Drop)]
 pub struct Reg {
     /// The address as the root sees it, through all `ranges` above; none without address cells.
     pub addr: Option<u128>,
@@ -104,7 +104,7 @@ pub struct Range {
 }
 
 /// A property's value. Its variant goes with the property's type.
-#[derive(Debug, Drop)]
+#[derive(Drop)]
 pub enum Val {
     /// Of a boolean: whether the property is there.
     Bool(bool),
@@ -129,7 +129,7 @@ pub enum Val {
 }
 
 /// A property with its type, as the node's binding declares it.
-#[derive(Debug, Drop)]
+#[derive(Drop)]
 pub struct Prop {
     /// The name.
     pub name: Text,
@@ -152,7 +152,7 @@ impl Model for Prop {
 }
 
 /// What is bound to a node.
-#[derive(Debug, Drop)]
+#[derive(Drop)]
 pub struct BoundNode {
     /// The declared properties that have a value, in byte order of their names.
     pub props: Vec<Prop>,
@@ -193,7 +193,7 @@ impl Model for BoundNode {
 }
 
 /// The instances of a compatible string: the nodes that list it.
-#[derive(Debug, Drop)]
+#[derive(Drop)]
 pub struct Inst {
     /// The compatible string.
     pub compat: Text,

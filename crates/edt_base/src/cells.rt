@@ -121,9 +121,5 @@ fn single_cell(parts: &[Part]) -> Option<u32>
 {
     let mut cells = Cells::of(parts);
     let cell = cells.next()?;
-    if cells.is_at_end() {
-        Some(cell)
-    } else {
-        None
-    }
+    if cells.is_at_end() { Some(cell) } else { None }
 }

@@ -34,8 +34,8 @@ pub use strings::{entry_name, names_fit};
 pub use text::Text;
 pub use tree::Tree;
 pub use tree_laws::{
-    a_root_alone_is_bound, a_root_alone_is_well_formed,
-    ancestors_are_the_parent_and_its_ancestors, parents_are_before,
+    a_root_alone_is_bound, a_root_alone_is_well_formed, ancestors_are_the_parent_and_its_ancestors,
+    children_rise, parents_are_before,
 };
 pub use words::Words;
 pub use yaml::Yaml;

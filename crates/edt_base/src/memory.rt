@@ -14,7 +14,7 @@ use std::alloc::{AllocError, Global};
 use std::marker::Model;
 
 /// Files in memory. They tell what they hold. Of a name that is held twice the first bytes count.
-#[derive(Debug, Drop)]
+#[derive(Drop)]
 pub struct MemFiles {
     held: Vec<(Text, Bytes)>,
     fail: Vec<u32>,
@@ -216,7 +216,7 @@ impl Files for MemFiles {
 }
 
 /// Files in memory that never fail: an absent file has no bytes, and an absent folder no names.
-#[derive(Debug, Drop)]
+#[derive(Drop)]
 pub struct GoodFiles {
     held: Vec<(Text, Bytes)>,
 }
@@ -255,7 +255,7 @@ impl Files for GoodFiles {
 }
 
 /// A sink in memory. It tells the bytes that it took.
-#[derive(Debug, Drop)]
+#[derive(Drop)]
 pub struct MemSink {
     taken: Vec<u8>,
     room: u64,
@@ -308,7 +308,7 @@ impl MemSink {
         is_listed(self.fail.as_slice(), call) || (len != 0 && self.taken.len() as u64 == self.room)
     }
 
-    /// Takes a front of a piece, as much as one write and the room allow.
+    /// Takes a prefix of a piece, as much as one write and the room allow.
     fn take(&mut self, piece: &[u8]) -> u64
         ensures taken { result ≡ taken_of self.old piece.now }
         ensures after { self.new ≡ record self.old { taken = self.old.taken ++ take result piece.now } }
@@ -349,7 +349,7 @@ impl Sink for MemSink {
 }
 
 /// A sink that never fails and keeps only the number of bytes that it took.
-#[derive(Debug, Drop)]
+#[derive(Drop)]
 pub struct NullSink {
     taken: u64,
 }

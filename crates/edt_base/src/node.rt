@@ -62,7 +62,7 @@ pub struct Part {
 }
 
 /// A property's value: its parts in order, none for a property without a value.
-#[derive(Debug, Drop)]
+#[derive(Drop)]
 pub struct PropVal {
     /// The parts.
     pub parts: Vec<Part>,
@@ -78,7 +78,7 @@ impl Model for PropVal {
 }
 
 /// A node. Contracts see it as the plain `NodeData`.
-#[derive(Debug, Drop)]
+#[derive(Drop)]
 pub struct NodeRec {
     /// The name with its unit address; the root's is `/`.
     pub name: Text,

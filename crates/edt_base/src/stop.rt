@@ -7,7 +7,7 @@ use crate::Rule;
 use std::alloc::{AllocError, AllocFailed};
 
 /// A broken rule of the node at hand, or want of memory. `NodeRec::told` adds the place.
-#[derive(Debug, Drop)]
+#[derive(Drop)]
 pub enum Stop {
     /// The first rule that is broken.
     Broken(Rule),
