@@ -10,8 +10,6 @@ mod maps;
 mod read;
 mod record;
 mod rules;
-#[cfg(test)]
-mod tests;
 
 pub use loading::load;
 pub use record::{BindingRec, Filter, Include, PropSpec};

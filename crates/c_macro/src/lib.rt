@@ -15,14 +15,10 @@ mod part;
 mod pend;
 mod place;
 mod places;
-#[cfg(test)]
-mod plain;
 mod row;
 mod same;
 mod sets;
 mod strings;
-#[cfg(test)]
-mod tests;
 mod text;
 mod tokens;
 mod turn;

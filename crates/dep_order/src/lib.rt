@@ -5,8 +5,6 @@ mod ends;
 mod laws;
 mod placing;
 mod ready;
-#[cfg(test)]
-mod tests;
 mod turns;
 
 pub use ends::OrderEnd;

@@ -11,14 +11,15 @@ marks_place (a ∷ b ∷ c ∷ rest) = nat_eq a 35 && nat_eq b 32 && is_digit c
 marks_place _ = false
 
 abbrev pub skips : List ℕ → Bool
-skips bytes = marks_place bytes || starts_with nat_eq bytes (codes "#line ") || starts_with nat_eq bytes (codes "#line\t")
+skips bytes = marks_place bytes || starts_with nat_eq bytes (codes "#line ")
+    || starts_with nat_eq bytes (codes "#line\t")
 
 -- a comment is closed: `*/` stands somewhere in what follows its `/*`
 abbrev pub closes : List ℕ → Bool
 closes [] = false
 closes (a ∷ rest) = starts_with nat_eq (a ∷ rest) (codes "*/") || closes rest
 
--- behind the first two bytes
+-- after the first two bytes
 abbrev pub closes_behind : List ℕ → Bool
 closes_behind (a ∷ b ∷ rest) = closes rest
 closes_behind _ = false

@@ -9,6 +9,7 @@ pub record AreAtMost (o : Opened) (most : ℕ) : Type 0 where
   pub squares : o.squares ≤ most
   pub angles : o.angles ≤ most
 
--- how many bytes the word at the front has, where that is known: no more than one look at each byte is taken for a row of pairs of digits
+-- how many bytes the word at the start has, where that is known: no more than one look at each byte is taken for a row
+-- of pairs of digits
 abbrev pub IsKnown : Opened → List ℕ → ℕ → Type 0
 IsKnown o bytes known = 0 < known → prefix_len (is_word_byte (is_narrow o)) bytes ≡ known

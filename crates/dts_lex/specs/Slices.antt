@@ -1,4 +1,4 @@
--- A token is a slice of what is left: a gap stands before it, and what is left behind it is behind it.
+-- A token is a slice of what is left: a gap stands before it, and what is left after it is after it.
 use Rattle.std.specs.Prelude.{◌≡◌, ℕ, ◌+◌, ◌<◌, ◌≤◌, List, ◌++◌, Option, Some, None, Result, Ok, Err, length}
 use Rattle.dts_lex.specs.Between.{gap, start}
 use Rattle.dts_lex.specs.Left.{Left}

@@ -1,4 +1,4 @@
--- The tokens of a source: which one stands where, and what is open behind it.
+-- The tokens of a source: which one stands where, and what is open after it.
 use Rattle.std.specs.Prelude.{◌≡◌, ℕ, zero, suc, ◌+◌, ◌-◌, max, Bool, true, false, ◌&&◌, ◌||◌, not, List, [], ◌∷◌, Option, Some, None, Result, Ok, Err, nat_eq, nat_lt, nat_le, drop, take, length, codes, option_map, if◌then◌else◌}
 use Rattle.std.specs.List.{prefix_len, starts_with}
 use Rattle.edt_base.specs.SourceBytes.{is_plain, is_wide, is_hex, is_octal, begins_label}
@@ -17,7 +17,7 @@ found k n = Some (record { kind = k; size = n })
 
 -- ---- words
 
--- lists, round brackets and values have plain words alone
+-- lists, parentheses and values have plain words alone
 abbrev pub is_narrow : Opened → Bool
 is_narrow o = nat_lt 0 o.rounds || nat_lt 0 o.angles || o.value
 
@@ -27,12 +27,12 @@ in_rounds o = nat_lt 0 o.rounds
 abbrev pub is_word_byte : Bool → ℕ → Bool
 is_word_byte narrow b = if narrow then is_plain b else is_wide b
 
--- a colon stands at the front
+-- a colon stands at the start
 abbrev pub at_colon : List ℕ → Bool
 at_colon [] = false
 at_colon (b ∷ rest) = nat_eq b 58
 
--- two hexadecimal digits stand at the front
+-- two hexadecimal digits stand at the start
 abbrev pub at_pair : List ℕ → Bool
 at_pair (a ∷ b ∷ rest) = is_hex a && is_hex b
 at_pair _ = false
@@ -45,7 +45,8 @@ abbrev pub at_word : Bool → List ℕ → Bool
 at_word narrow [] = false
 at_word narrow (b ∷ rest) = is_word_byte narrow b
 
--- the token of a word of n bytes: before a colon a name; within `[ ]` a pair of digits; in a list, or where a number is wanted, a number; else a name
+-- the token of a word of n bytes: before a colon a name; within `[ ]` a pair of digits; in a list, or where a number is
+-- wanted, a number; else a name
 abbrev pub word : Opened → ℕ → List ℕ → Option Found
 word o n bytes =
     if not (in_rounds o) && at_colon (drop n bytes) then found kind.Name n
@@ -55,17 +56,22 @@ word o n bytes =
 
 -- ---- quotes
 
--- whether the byte behind this one is escaped, none at the closing quote; behind a backslash any byte is text
+-- whether the byte after this one is escaped, none at the closing quote; after a backslash any byte is text
 abbrev pub escapes : Bool → ℕ → Option Bool
 escapes true b = Some false
 escapes false b = if nat_eq b 34 then None else Some (nat_eq b 92)
 
--- how many bytes a text has, its closing quote with it, where one stands
+-- how many bytes a string literal has, its closing quote with it, where one stands
 abbrev pub quoted : Bool → List ℕ → Option ℕ
 quoted escaped [] = None
-quoted escaped (b ∷ rest) = elim (escapes escaped b) [ None ↦ Some 1 | Some next ↦ option_map (λ n. suc n) (quoted next rest) ]
+quoted escaped (b ∷ rest) = elim (escapes escaped b) [
+  | None ↦ Some 1
+  | Some next ↦ option_map (λ n. suc n)
+      (quoted next rest)
+]
 
--- how many bytes an escape has behind its backslash: up to three octal digits, up to 377; `x` and up to two hexadecimal digits; else one byte
+-- how many bytes an escape has after its backslash: up to three octal digits, up to 377; `x` and up to two hexadecimal
+-- digits; else one byte
 abbrev pub escape : List ℕ → ℕ
 escape [] = 0
 escape (b ∷ rest) =
@@ -80,7 +86,8 @@ at_quote (b ∷ rest) = nat_eq b 39
 -- how many bytes stand between the quotes of a character: one, no quote, backslash or newline, or one escape
 abbrev pub char_size : List ℕ → ℕ
 char_size [] = 0
-char_size (b ∷ rest) = if nat_eq b 92 then (if nat_eq (escape rest) 0 then 0 else suc (escape rest)) else if nat_eq b 39 || nat_eq b 10 then 0 else 1
+char_size (b ∷ rest) = if nat_eq b 92 then (if nat_eq (escape rest) 0 then 0 else suc (escape rest)) else if nat_eq b 39
+    || nat_eq b 10 then 0 else 1
 
 -- ---- references
 
@@ -101,38 +108,42 @@ reference (b ∷ rest) =
     else if begins_label b then found kind.Ref (2 + prefix_len is_plain rest)
     else None
 
--- ---- directives and signs
+-- ---- directives and punctuators
 
 abbrev pub directives : List (List ℕ)
-directives = codes "/dts-v1/" ∷ codes "/plugin/" ∷ codes "/memreserve/" ∷ codes "/delete-node/" ∷ codes "/delete-property/"
+directives = codes "/dts-v1/" ∷ codes "/plugin/" ∷ codes "/memreserve/" ∷ codes "/delete-node/"
+    ∷ codes "/delete-property/"
     ∷ codes "/omit-if-no-ref/" ∷ codes "/bits/" ∷ codes "/include/" ∷ codes "/incbin/" ∷ []
 
--- how many bytes the directive at the front has, 0 without one
+-- how many bytes the directive at the start has, 0 without one
 abbrev pub directive_in : List (List ℕ) → List ℕ → ℕ
 directive_in [] bytes = 0
 directive_in (d ∷ ds) bytes = if starts_with nat_eq bytes d then length d else directive_in ds bytes
 
--- the signs outside round brackets: ( ) [ ] { } < > / : ; = ,
+-- the punctuators outside parentheses: ( ) [ ] { } < > / : ; = ,
 abbrev pub is_outer_sign : ℕ → Bool
-is_outer_sign b = nat_eq b 40 || nat_eq b 41 || nat_eq b 91 || nat_eq b 93 || nat_eq b 123 || nat_eq b 125 || nat_eq b 60 || nat_eq b 62
+is_outer_sign b = nat_eq b 40 || nat_eq b 41 || nat_eq b 91 || nat_eq b 93 || nat_eq b 123 || nat_eq b 125
+    || nat_eq b 60 || nat_eq b 62
     || nat_eq b 47 || nat_eq b 58 || nat_eq b 59 || nat_eq b 61 || nat_eq b 44
 
--- the operators of one byte that are no signs outside: - ~ ! * % + & ^ | ?
+-- the operators of one byte that are no punctuators outside: - ~ ! * % + & ^ | ?
 abbrev pub is_operator : ℕ → Bool
-is_operator b = nat_eq b 45 || nat_eq b 126 || nat_eq b 33 || nat_eq b 42 || nat_eq b 37 || nat_eq b 43 || nat_eq b 38 || nat_eq b 94
+is_operator b = nat_eq b 45 || nat_eq b 126 || nat_eq b 33 || nat_eq b 42 || nat_eq b 37 || nat_eq b 43 || nat_eq b 38
+    || nat_eq b 94
     || nat_eq b 124 || nat_eq b 63
 
 -- the operators of two bytes: << <= >> >= == != && ||
 abbrev pub is_double : ℕ → ℕ → Bool
 is_double a b =
-    (nat_eq a 60 && (nat_eq b 60 || nat_eq b 61)) || (nat_eq a 62 && (nat_eq b 62 || nat_eq b 61)) || (nat_eq b 61 && (nat_eq a 61 || nat_eq a 33))
+    (nat_eq a 60 && (nat_eq b 60 || nat_eq b 61)) || (nat_eq a 62 && (nat_eq b 62 || nat_eq b 61))
+    || (nat_eq b 61 && (nat_eq a 61 || nat_eq a 33))
     || (nat_eq a 38 && nat_eq b 38) || (nat_eq a 124 && nat_eq b 124)
 
 abbrev pub at_double : List ℕ → Bool
 at_double (a ∷ b ∷ rest) = is_double a b
 at_double _ = false
 
--- how many bytes the sign at the front has, 0 without one; an open comment is none
+-- how many bytes the punctuator at the start has, 0 without one; an open comment is none
 abbrev pub sign : Bool → List ℕ → ℕ
 sign rounds [] = 0
 sign rounds (b ∷ rest) =
@@ -145,22 +156,24 @@ abbrev pub sized : SpanKind → ℕ → Option Found
 sized k zero = None
 sized k (suc n) = found k (suc n)
 
--- ---- the token at the front
+-- ---- the token at the start
 
 -- a character, both quotes with it
 abbrev pub char : List ℕ → Option Found
-char rest = if nat_lt 0 (char_size rest) && at_quote (drop (char_size rest) rest) then found kind.Char (2 + char_size rest) else None
+char rest = if nat_lt 0 (char_size rest) && at_quote (drop (char_size rest) rest)
+    then found kind.Char (2 + char_size rest) else None
 
--- a directive, or a sign
+-- a directive, or a punctuator
 abbrev pub mark : Opened → List ℕ → Option Found
-mark o bytes = if not (in_rounds o) && nat_lt 0 (directive_in directives bytes) then found kind.Directive (directive_in directives bytes)
+mark o bytes = if not (in_rounds o) && nat_lt 0 (directive_in directives bytes)
+    then found kind.Directive (directive_in directives bytes)
     else sized kind.Punct (sign (in_rounds o) bytes)
 
 -- a text, both quotes with it
 abbrev pub text : List ℕ → Option Found
 text rest = option_map (λ n. record { kind = kind.Str; size = suc n }) (quoted false rest)
 
--- what stands at the front, where no gap stands; none where no token does
+-- what stands at the start, where no gap stands; none where no token does
 abbrev pub stands : Opened → List ℕ → Option Found
 stands o [] = None
 stands o (b ∷ rest) =
@@ -170,13 +183,13 @@ stands o (b ∷ rest) =
     else if nat_eq b 38 && not (in_rounds o) then reference rest
     else mark o (b ∷ rest)
 
--- ---- what is open behind a token
+-- ---- what is open after a token
 
 abbrev pub below : ℕ → ℕ
 below zero = zero
 below (suc n) = n
 
--- behind a sign of one byte; within round brackets `<` and `>` are operators
+-- after a punctuator of one byte; within parentheses `<` and `>` are operators
 abbrev pub behind_sign : Opened → ℕ → Opened
 behind_sign o b =
     if nat_eq b 40 then record o { rounds = suc o.rounds }
@@ -214,14 +227,14 @@ next_at l (b ∷ rest) at (Some f) = Ok (Some (
   record { bytes = drop f.size (b ∷ rest); at = at + f.size; opened = behind l.opened f.kind (take f.size (b ∷ rest)) },
 ))
 
--- the bytes behind the gap, and where they begin
+-- the bytes after the gap, and where they begin
 abbrev pub rest_of : Left → List ℕ
 rest_of l = drop (gap (start l.at) l.bytes) l.bytes
 
 abbrev pub place_of : Left → ℕ
 place_of l = l.at + gap (start l.at) l.bytes
 
--- the next token with what is left behind it; none where only a gap is left; a fault where no token stands
+-- the next token with what is left after it; none where only a gap is left; a fault where no token stands
 abbrev pub next_of : Left → Result (Option (Span × Left)) LexFault
 next_of l = next_at l (rest_of l) (place_of l) (stands l.opened (rest_of l))
 

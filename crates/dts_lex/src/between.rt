@@ -1,7 +1,8 @@
 //! What stands between tokens: blanks, comments and skipped lines.
 
 ghost use Rattle.std.specs.Prelude.{◌≡◌, ◌≤◌, length};
-ghost use Rattle.dts_lex.specs.Between.{closes, closes_behind, enter, enter_within, gap, marks_place, skips, start};
+ghost use Rattle.dts_lex.specs.Between.{closes, closes_behind, enter, enter_within, gap};
+ghost use Rattle.dts_lex.specs.Between.{marks_place, skips, start};
 ghost use Rattle.edt_base.specs.SourceBytes.{is_blank};
 
 use crate::words::{is_blank, is_digit};
@@ -110,7 +111,7 @@ fn marks_place(bytes: &[u8]) -> bool
     }
 }
 
-/// The comment whose `/*` stands at the front is closed.
+/// The comment whose `/*` stands at the start is closed.
 fn closes_behind(bytes: &[u8]) -> bool
     ensures { result ≡ closes_behind bytes.now }
 {

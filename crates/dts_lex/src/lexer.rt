@@ -15,11 +15,11 @@ use thiserror::Error;
 pub enum SpanKind {
     /// A name of a node or a property, or a label.
     Name,
-    /// A number, in a list or behind `/bits/` or `/memreserve/`, or another word in its place.
+    /// A number, in a list or after `/bits/` or `/memreserve/`, or another word in its place.
     Number,
     /// A character in single quotes.
     Char,
-    /// A text in double quotes.
+    /// A string literal.
     Str,
     /// `&` and a label.
     Ref,
@@ -27,7 +27,7 @@ pub enum SpanKind {
     PathRef,
     /// A directive, its slashes with it.
     Directive,
-    /// A bracket, an operator or another sign.
+    /// A bracket, an operator or another punctuator.
     Punct,
     /// Two hexadecimal digits in square brackets.
     HexPair,
@@ -40,7 +40,7 @@ pub struct Span {
     pub kind: SpanKind,
     /// Its first byte, counted from 0.
     pub start: u64,
-    /// The byte behind its last.
+    /// The byte after its last.
     pub end: u64,
 }
 
@@ -58,7 +58,7 @@ pub struct Lexer<'a> {
     rest: &'a [u8],
     at: u64,
     opened: Opened,
-    /// How many bytes the word at the front of the rest has, 0 where that isn't known.
+    /// How many bytes the word at the start of the rest has, 0 where that isn't known.
     known: usize,
 }
 
@@ -71,7 +71,8 @@ impl<'a> Model for Lexer<'a> {
 
     ghost view = { λ l. record { bytes = l.rest.now; at = l.at; opened = l.opened } };
 
-    ghost invariant = { λ l. (l.at + length l.rest.now < 2 ^ 64) × AreAtMost l.opened l.at × IsKnown l.opened l.rest.now l.known };
+    ghost invariant = { λ l. (l.at + length l.rest.now < 2 ^ 64) × AreAtMost l.opened l.at
+        × IsKnown l.opened l.rest.now l.known };
 }
 
 impl<'a> Lexer<'a> {
@@ -87,7 +88,7 @@ impl<'a> Lexer<'a> {
         }
     }
 
-    /// The next token, behind blanks, comments and skipped lines. `None` exactly at the end. The
+    /// The next token, after blanks, comments and skipped lines. `None` exactly at the end. The
     /// error comes exactly where no token stands, and then again at every call. Takes no memory.
     pub fn next(&mut self) -> Result<Option<Span>, LexFault>
         ensures { Reads self.old result self.new }

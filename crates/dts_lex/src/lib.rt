@@ -8,8 +8,6 @@ mod lexer;
 mod names;
 mod opened;
 mod signs;
-#[cfg(test)]
-mod tests;
 mod token;
 mod words;
 

@@ -8,11 +8,11 @@ use crate::words::is_node_byte;
 /// Where a byte stands in a row of nodes' names with a slash before each.
 #[derive(Clone, Copy)]
 pub(crate) enum Row {
-    /// Behind a slash.
+    /// After a slash.
     Slash,
     /// In a name.
     Word,
-    /// Behind the `@` of a name.
+    /// After the `@` of a name.
     Sign,
     /// In the unit address of a name.
     Unit,

@@ -2,7 +2,8 @@
 
 ghost use Rattle.std.specs.Prelude.{◌≡◌, ◌≤◌, ◌<◌, ◌+◌, ◌^◌};
 ghost use Rattle.dts_lex.specs.Left.{nothing_open};
-ghost use Rattle.dts_lex.specs.Tokens.{at_least, behind, behind_directive, behind_sign, below, in_rounds, is_narrow};
+ghost use Rattle.dts_lex.specs.Tokens.{at_least, behind, behind_directive, behind_sign, below};
+ghost use Rattle.dts_lex.specs.Tokens.{in_rounds, is_narrow};
 ghost use Rattle.dts_lex.specs.Counts.{AreAtMost};
 
 use crate::lexer::SpanKind;
@@ -10,7 +11,7 @@ use crate::lexer::SpanKind;
 /// What is open, and what else decides the kinds of words.
 #[derive(Clone, Copy)]
 pub(crate) struct Opened {
-    /// How many round brackets are open.
+    /// How many parentheses are open.
     pub(crate) rounds: u64,
     /// How many square brackets are open.
     pub(crate) squares: u64,
@@ -18,7 +19,7 @@ pub(crate) struct Opened {
     pub(crate) angles: u64,
     /// How many of the next words are numbers.
     pub(crate) numbers: u64,
-    /// Whether this is behind a `=`, before the next `;`.
+    /// Whether this is after a `=`, before the next `;`.
     pub(crate) value: bool,
 }
 
@@ -36,7 +37,7 @@ impl Opened {
         }
     }
 
-    /// A round bracket is open.
+    /// A parenthesis is open.
     pub(crate) fn in_rounds(self) -> bool
         ensures { result ≡ in_rounds self }
     {
@@ -50,7 +51,7 @@ impl Opened {
         self.rounds > 0 || self.angles > 0 || self.value
     }
 
-    /// What is open behind a token. No more is open than `most`.
+    /// What is open after a token. No more is open than `most`.
     pub(crate) fn behind(self, kind: SpanKind, text: &[u8], most: u64) -> Opened
         requires counts { AreAtMost self most }
         requires room { most + 1 < 2 ^ 64 }

@@ -1,9 +1,10 @@
-//! Directives, operators and other signs, and what is open behind them.
+//! Directives, operators and other punctuators, and what is open after them.
 
 ghost use Rattle.std.specs.Prelude.{◌≡◌, ◌≤◌, ◌<◌, ◌+◌, length, IsTrue};
-ghost use Rattle.dts_lex.specs.Tokens.{at_double, directive_in, directives, is_double, is_operator, is_outer_sign, sign};
+ghost use Rattle.dts_lex.specs.Tokens.{at_double, directive_in, directives, is_double, is_operator};
+ghost use Rattle.dts_lex.specs.Tokens.{is_outer_sign, sign};
 
-/// How many bytes the directive at the front has, 0 without one.
+/// How many bytes the directive at the start has, 0 without one.
 pub(crate) fn directive_length(bytes: &[u8]) -> usize
     ensures length { result ≡ directive_in directives bytes.now }
     ensures within { result ≤ length bytes.now }
@@ -31,8 +32,8 @@ pub(crate) fn directive_length(bytes: &[u8]) -> usize
     }
 }
 
-/// How many bytes the sign at the front has, 0 without one; within round brackets operators are
-/// signs.
+/// How many bytes the punctuator at the start has, 0 without one; within parentheses operators are
+/// punctuators.
 pub(crate) fn sign_length(rounds: bool, bytes: &[u8]) -> usize
     ensures length { result ≡ sign rounds bytes.now }
     ensures within { result ≤ length bytes.now }
@@ -51,7 +52,7 @@ pub(crate) fn sign_length(rounds: bool, bytes: &[u8]) -> usize
     }
 }
 
-/// An operator of two bytes stands at the front.
+/// An operator of two bytes stands at the start.
 fn at_double(bytes: &[u8]) -> bool
     ensures double { result ≡ at_double bytes.now }
     ensures within { IsTrue result → 2 ≤ length bytes.now }
@@ -73,7 +74,7 @@ fn is_double(first: u8, second: u8) -> bool
         || (first == b'|' && second == b'|')
 }
 
-/// A sign outside round brackets and within them.
+/// A punctuator outside parentheses and within them.
 fn is_outer_sign(byte: u8) -> bool
     ensures { result ≡ is_outer_sign byte }
 {
@@ -83,7 +84,7 @@ fn is_outer_sign(byte: u8) -> bool
     )
 }
 
-/// A sign within round brackets alone.
+/// A punctuator within parentheses alone.
 fn is_operator(byte: u8) -> bool
     ensures { result ≡ is_operator byte }
 {

@@ -1,10 +1,14 @@
-//! Which token stands at the front of what is left.
+//! Which token stands at the start of what is left.
 
-ghost use Rattle.std.specs.Prelude.{◌≡◌, ◌≤◌, ◌<◌, ◌+◌, length, option_map, drop, take, true, false, IfSome, IsTrue};
+ghost use Rattle.std.specs.Prelude.{◌≡◌, ◌≤◌, ◌<◌, ◌+◌, length, option_map, drop, take, true};
+ghost use Rattle.std.specs.Prelude.{false, IfSome, IsTrue};
 ghost use Rattle.std.specs.List.{prefix_len};
 ghost use Rattle.edt_base.specs.SourceBytes.{is_hex, is_octal};
 ghost use Rattle.dts_lex.specs.Counts.{IsKnown};
-ghost use Rattle.dts_lex.specs.Tokens.{at_colon, at_pair, at_quote, at_word, behind, char, char_size, escape, escapes, found, in_rounds, is_narrow, is_no_brace, is_word_byte, mark, pair, path_reference, quoted, reference, sized, stands, text, word};
+ghost use Rattle.dts_lex.specs.Tokens.{at_colon, at_pair, at_quote, at_word, behind, char};
+ghost use Rattle.dts_lex.specs.Tokens.{char_size, escape, escapes, found, in_rounds, is_narrow};
+ghost use Rattle.dts_lex.specs.Tokens.{is_no_brace, is_word_byte, mark, pair, path_reference};
+ghost use Rattle.dts_lex.specs.Tokens.{quoted, reference, sized, stands, text, word};
 
 use crate::lexer::SpanKind;
 use crate::names::is_path;
@@ -21,7 +25,7 @@ pub(crate) struct Found {
     pub(crate) size: usize,
 }
 
-/// What stands at the front, where no gap stands; `None` where no token does.
+/// What stands at the start, where no gap stands; `None` where no token does.
 pub(crate) fn token_at(opened: Opened, bytes: &[u8], known: usize) -> Option<Found>
     requires { IsKnown opened bytes.now known }
     ensures found { result ≡ stands opened bytes.now }
@@ -41,11 +45,12 @@ pub(crate) fn token_at(opened: Opened, bytes: &[u8], known: usize) -> Option<Fou
     }
 }
 
-/// The token of the word at the front.
+/// The token of the word at the start.
 fn word(opened: Opened, bytes: &[u8], known: usize) -> Option<Found>
     requires word { at_word (is_narrow opened) bytes.now ≡ true }
     requires known { IsKnown opened bytes.now known }
-    ensures found { result ≡ word opened (prefix_len (is_word_byte (is_narrow opened)) bytes.now) bytes.now }
+    ensures found { result ≡ word opened (prefix_len (is_word_byte (is_narrow opened)) bytes.now)
+        bytes.now }
     ensures size { IfSome result (λ f. (0 < f.size) × (f.size ≤ length bytes.now)) }
 {
     let size = known_length(opened, bytes, known);
@@ -61,7 +66,7 @@ fn word(opened: Opened, bytes: &[u8], known: usize) -> Option<Found>
     }
 }
 
-/// How many bytes the word at the front has, looked at anew only where that isn't known.
+/// How many bytes the word at the start has, looked at anew only where that isn't known.
 fn known_length(opened: Opened, bytes: &[u8], known: usize) -> usize
     requires { IsKnown opened bytes.now known }
     ensures length { result ≡ prefix_len (is_word_byte (is_narrow opened)) bytes.now }
@@ -74,7 +79,7 @@ fn known_length(opened: Opened, bytes: &[u8], known: usize) -> usize
     }
 }
 
-/// What is known of the word at the front, where it is a row of pairs of digits: its length.
+/// What is known of the word at the start, where it is a row of pairs of digits: its length.
 pub(crate) fn row_length(opened: Opened, bytes: &[u8], known: usize) -> usize
     requires { IsKnown opened bytes.now known }
     ensures { IsKnown opened bytes.now result }
@@ -86,10 +91,11 @@ pub(crate) fn row_length(opened: Opened, bytes: &[u8], known: usize) -> usize
     }
 }
 
-/// What is known behind a token of the word that it stands in.
+/// What is known after a token of the word that it stands in.
 pub(crate) fn known_behind(opened: Opened, found: Found, bytes: &[u8], known: usize) -> usize
     requires { IsKnown opened bytes.now known }
-    ensures { IsKnown (behind opened found.kind (take found.size bytes.now)) (drop found.size bytes.now) result }
+    ensures { IsKnown (behind opened found.kind (take found.size bytes.now))
+        (drop found.size bytes.now) result }
 {
     match found.kind {
         SpanKind::HexPair if found.size == 2 => known_behind_pair(opened, bytes, known),
@@ -125,7 +131,7 @@ fn at_colon(bytes: &[u8]) -> bool
     }
 }
 
-/// The pair of hexadecimal digits at the front.
+/// The pair of hexadecimal digits at the start.
 fn pair(bytes: &[u8]) -> Option<Found>
     ensures found { result ≡ pair bytes.now }
     ensures size { IfSome result (λ f. (0 < f.size) × (f.size ≤ length bytes.now)) }
@@ -136,7 +142,7 @@ fn pair(bytes: &[u8]) -> Option<Found>
     }
 }
 
-/// The text behind its opening quote.
+/// The string literal after its opening quote.
 fn text(rest: &[u8]) -> Option<Found>
     ensures found { result ≡ text rest.now }
     ensures size { IfSome result (λ f. (0 < f.size) × (f.size ≤ length rest.now + 1)) }
@@ -145,7 +151,7 @@ fn text(rest: &[u8]) -> Option<Found>
     of_size(SpanKind::Str, size + 1)
 }
 
-/// How many bytes a text has behind its opening quote, the closing one with them.
+/// How many bytes a string literal has after its opening quote, the closing one with them.
 fn quoted_length(rest: &[u8]) -> Option<usize>
     ensures length { result ≡ quoted false rest.now }
     ensures within { IfSome result (λ n. n ≤ length rest.now) }
@@ -160,7 +166,7 @@ fn quoted_length(rest: &[u8]) -> Option<usize>
     None
 }
 
-/// Whether the byte behind this one is escaped; `None` at the closing quote.
+/// Whether the byte after this one is escaped; `None` at the closing quote.
 fn escapes(escaped: bool, byte: u8) -> Option<bool>
     ensures { result ≡ escapes escaped byte }
 {
@@ -173,7 +179,7 @@ fn escapes(escaped: bool, byte: u8) -> Option<bool>
     }
 }
 
-/// The character behind its opening quote.
+/// The character after its opening quote.
 fn char(rest: &[u8]) -> Option<Found>
     ensures found { result ≡ char rest.now }
     ensures size { IfSome result (λ f. (0 < f.size) × (f.size ≤ length rest.now + 1)) }
@@ -216,7 +222,7 @@ fn char_size(rest: &[u8]) -> usize
     }
 }
 
-/// How many bytes an escape has behind its backslash.
+/// How many bytes an escape has after its backslash.
 fn escape_size(rest: &[u8]) -> usize
     ensures size { result ≡ escape rest.now }
     ensures within { result ≤ length rest.now }
@@ -233,7 +239,7 @@ fn escape_size(rest: &[u8]) -> usize
     }
 }
 
-/// How many octal digits stand at the front, counted up to `most`.
+/// How many octal digits stand at the start, counted up to `most`.
 fn octal_length(most: usize, bytes: &[u8]) -> usize
     ensures length { result ≡ prefix_len is_octal (take most bytes.now) }
     ensures within { result ≤ length bytes.now }
@@ -245,7 +251,7 @@ fn octal_length(most: usize, bytes: &[u8]) -> usize
         .count()
 }
 
-/// How many hexadecimal digits stand at the front, counted up to 2.
+/// How many hexadecimal digits stand at the start, counted up to 2.
 fn hex_length(bytes: &[u8]) -> usize
     ensures length { result ≡ prefix_len is_hex (take 2 bytes.now) }
     ensures within { result ≤ length bytes.now }
@@ -257,7 +263,7 @@ fn hex_length(bytes: &[u8]) -> usize
         .count()
 }
 
-/// The reference behind its `&`.
+/// The reference after its `&`.
 fn reference(rest: &[u8]) -> Option<Found>
     ensures found { result ≡ reference rest.now }
     ensures size { IfSome result (λ f. (0 < f.size) × (f.size ≤ length rest.now + 1)) }
@@ -272,7 +278,7 @@ fn reference(rest: &[u8]) -> Option<Found>
     }
 }
 
-/// The path behind its brace.
+/// The path after its brace.
 fn path_reference(rest: &[u8]) -> Option<Found>
     ensures found { result ≡ path_reference rest.now }
     ensures size { IfSome result (λ f. (0 < f.size) × (f.size ≤ length rest.now + 2)) }
@@ -294,7 +300,7 @@ fn brace_place(bytes: &[u8]) -> usize
     bytes.iter().take_while(|byte| **byte != b'}').count()
 }
 
-/// The directive or the sign at the front.
+/// The directive or the punctuator at the start.
 fn mark(opened: Opened, bytes: &[u8]) -> Option<Found>
     ensures found { result ≡ mark opened bytes.now }
     ensures size { IfSome result (λ f. (0 < f.size) × (f.size ≤ length bytes.now)) }

@@ -2,7 +2,9 @@
 
 ghost use Rattle.std.specs.Prelude.{◌≡◌, ◌≤◌, length};
 ghost use Rattle.std.specs.List.{prefix_len};
-ghost use Rattle.edt_base.specs.SourceBytes.{begins_label, is_blank, is_digit, is_hex, is_letter, is_node_byte, is_octal, is_plain, is_prop_byte, is_wide};
+ghost use Rattle.edt_base.specs.SourceBytes.{begins_label, is_blank, is_digit, is_hex, is_letter};
+ghost use Rattle.edt_base.specs.SourceBytes.{is_node_byte, is_octal, is_plain, is_prop_byte};
+ghost use Rattle.edt_base.specs.SourceBytes.{is_wide};
 ghost use Rattle.dts_lex.specs.Tokens.{is_word_byte};
 
 pub(crate) fn is_blank(byte: u8) -> bool
@@ -81,7 +83,7 @@ pub(crate) fn is_word_byte(narrow: bool, byte: u8) -> bool
     }
 }
 
-/// How many bytes the word at the front has.
+/// How many bytes the word at the start has.
 pub(crate) fn word_length(narrow: bool, bytes: &[u8]) -> usize
     ensures length { result ≡ prefix_len (is_word_byte narrow) bytes.now }
     ensures within { result ≤ length bytes.now }
@@ -92,7 +94,7 @@ pub(crate) fn word_length(narrow: bool, bytes: &[u8]) -> usize
         .count()
 }
 
-/// How many bytes at the front have letters, digits and `_` alone.
+/// How many bytes at the start have letters, digits and `_` alone.
 pub(crate) fn plain_length(bytes: &[u8]) -> usize
     ensures length { result ≡ prefix_len is_plain bytes.now }
     ensures within { result ≤ length bytes.now }

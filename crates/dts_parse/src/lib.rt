@@ -11,16 +11,12 @@ mod mode;
 mod names;
 mod numbers;
 mod parser;
-#[cfg(test)]
-mod plain;
 mod script;
 mod sign;
 mod source;
 mod statements;
 mod stop;
 mod targets;
-#[cfg(test)]
-mod tests;
 mod texts;
 mod token;
 mod values;

@@ -17,13 +17,14 @@ use Rattle.std.proofs.lemmas.List.Elements.{All-append}
 use Rattle.std.proofs.lemmas.Option.{none-some, same_Some, slice_get_within, get_or_from_slice_get, slice_get-get_or}
 use Rattle.edt_base.specs.NodeData.{NodeData, has_path, has_label, has_phandle, phandle_of, holds_number}
 use Rattle.edt_base.specs.TreeData.{PathsApart, PhandlesApart}
-use Rattle.edt_base.specs.IndexData.{IsIndex, IsFound, IsPathIndex, IsLabelIndex, IsPhandleIndex, entries_from, path_at, path_entries, label_at, label_entries, phandle_entries}
+use Rattle.edt_base.specs.Inner.IndexData.{IsIndex, IsFound, IsPathIndex, IsLabelIndex, IsPhandleIndex, entries_from, path_entries, label_at, label_entries, phandle_entries}
+use Rattle.edt_base.specs.Nodes.{path_at}
 use Rattle.edt_base.specs.declared.index.LabelPlace.{LabelPlace}
 use Rattle.edt_base.specs.declared.index.PhandlePlace.{PhandlePlace}
 use Rattle.std.proofs.lemmas.List.FromFn.{length-map-range_with_len, get_or-map-range_with_len}
 
 -- what isn't true is false
-not_true : (b : Bool) → (b ≡ true → ⊥) → b ≡ false
+pub not_true : (b : Bool) → (b ≡ true → ⊥) → b ≡ false
 not_true true f = absurd (f refl)
 not_true false f = refl
 

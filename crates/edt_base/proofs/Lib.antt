@@ -1,6 +1,9 @@
 pub mod IndexLemmas
 pub mod ListLaws
 pub mod OrderLaws
+pub mod PropOrderLemmas
 pub mod RisingLaws
 pub mod RootAlone
+pub mod TreeLaws
+pub mod ValueLaws
 pub mod WriteLaws

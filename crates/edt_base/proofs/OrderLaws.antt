@@ -18,7 +18,7 @@ order_below order count h =
     All-permutation (λ id. id < count) (range_with_len 0 count) order (IsPermutation-sym order (range_with_len 0 count) h) below
 
 -- one more number behind a range
-range_more : (a n : ℕ) → range_with_len a (suc n) ≡ range_with_len a n ++ (a + n) ∷ []
+pub range_more : (a n : ℕ) → range_with_len a (suc n) ≡ range_with_len a n ++ (a + n) ∷ []
 range_more a zero = ap (λ m. m ∷ []) (omega arith)
 range_more a (suc n) =
     let e : (a + 1) + n ≡ a + suc n = omega arith in

@@ -6,7 +6,7 @@ use Rattle.std.specs.Ordering.{nat_cmp, is_lt}
 use Rattle.std.proofs.lemmas.Bool.Decides.{nat_tests}
 use Rattle.std.proofs.lemmas.List.Sums.{sum_by-cons}
 use Rattle.std.proofs.lemmas.List.Sorted.{sum_by-IsPermutation, IsNonDecreasingBy-from_all_adjacent}
-use Rattle.edt_base.specs.Marks.{insert_rising, rising}
+use Rattle.edt_base.specs.Ords.{insert_rising, rising}
 
 -- how often a number stands in a list
 abbrev one : ℕ → ℕ → ℕ

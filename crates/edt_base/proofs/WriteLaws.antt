@@ -28,7 +28,7 @@ rose_then a b c le (inr last) = inr last
 pub sure_then : (a b c : SinkSeen) (m n : ℕ) → IsSure a b m → IsSure b c n → IsSure a c (m + n)
 sure_then a b c m n first second = record { faults = second.faults ∙ first.faults; room = omega (arith, first.room, second.room) }
 
--- what holds while a text goes out: a front of it was taken, and the rest is left
+-- what holds while a text goes out: a prefix of it was taken, and the rest is left
 pub record SoFar (old now : SinkSeen) (text rest : List ℕ) : Type 0 where
   pub front : List ℕ
   pub whole : text ≡ front ++ rest

@@ -1,5 +1,5 @@
--- What a fault says: its rule's code and its place.
-use Rattle.std.specs.Prelude.{ℕ, List, ◌++◌, codes}
+-- What a fault says: its rule's code and its place; and which rules are limits.
+use Rattle.std.specs.Prelude.{ℕ, Bool, true, false, List, ◌++◌, codes}
 use Rattle.std.specs.Fmt.{decimal}
 use Rattle.edt_base.specs.declared.fault.Rule.{Rule}
 use Rattle.edt_base.specs.declared.fault.Rule.TheVariants as rule
@@ -97,3 +97,18 @@ place_text (place.Node path) = path
 -- the rule's code, a space and the place
 abbrev pub fault_text : Fault → List ℕ
 fault_text fault = rule_code fault.rule ++ codes " " ++ place_text fault.place
+
+-- the limits: `L1` to `L10`, and `C7` of an expansion
+abbrev pub is_limit : Rule → Bool
+is_limit rule.L1 = true
+is_limit rule.L2 = true
+is_limit rule.L3 = true
+is_limit rule.L4 = true
+is_limit rule.L5 = true
+is_limit rule.L6 = true
+is_limit rule.L7 = true
+is_limit rule.L8 = true
+is_limit rule.L9 = true
+is_limit rule.L10 = true
+is_limit rule.C7 = true
+is_limit _ = false

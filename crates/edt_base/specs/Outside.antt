@@ -67,21 +67,21 @@ FailsAs call old new (Result.Err ending.Failed) = Rose old.faults new.faults × 
 FailsAs call old new (Result.Err ending.TooBig) = new ≡ old
 FailsAs call old new (Result.Err (ending.Memory e)) = new ≡ old
 
--- the sink took this text behind what it had
+-- the sink took this text after what it had
 abbrev pub Gains : SinkSeen → SinkSeen → List ℕ → Type 0
 Gains old new text = new.bytes ≡ option_map (λ b. b ++ text) old.bytes
 
--- the sink took a front of this text
-abbrev pub GainsFront : SinkSeen → SinkSeen → List ℕ → Type 0
-GainsFront old new text = (front : List ℕ) × (rest : List ℕ) × (text ≡ front ++ rest) × Gains old new front
+-- the sink took a prefix of this text
+abbrev pub GainsPrefix : SinkSeen → SinkSeen → List ℕ → Type 0
+GainsPrefix old new text = (prefix : List ℕ) × (rest : List ℕ) × (text ≡ prefix ++ rest) × Gains old new prefix
 
 -- nothing failed, and the sure room fell by no more than n
 pub record IsSure (old new : SinkSeen) (n : ℕ) : Type 0 where
   pub faults : new.faults ≡ old.faults
   pub room : old.room ≤ new.room + n
 
--- what became of writing a text: all of it was taken, or the count rose and a front of it was taken
+-- what became of writing a text: all of it was taken, or the count rose and a prefix of it was taken
 pub record Wrote (old new : SinkSeen) (text : List ℕ) (done : Bool) : Type 0 where
-  pub taken : MatchBool done (Gains old new text) (Rose old.faults new.faults × GainsFront old new text)
+  pub taken : MatchBool done (Gains old new text) (Rose old.faults new.faults × GainsPrefix old new text)
   pub count : old.faults ≤ new.faults
   pub sure : length text ≤ old.room → IsTrue done × IsSure old new (length text)

@@ -4,6 +4,7 @@ use Rattle.std.specs.Option.{option_map_or}
 use Rattle.edt_base.specs.NodeData.{NodeData, has_label, phandle_of, holds_number}
 use Rattle.edt_base.specs.declared.node.Kind.{Kind}
 use Rattle.edt_base.specs.declared.node.Kind.TheVariants as kind
+use Rattle.edt_base.specs.SourceNames.{is_node_name}
 use Rattle.edt_base.specs.declared.node.Part.{Part}
 
 -- a tree: its nodes in preorder, and the pairs of `/aliases` and `/chosen`
@@ -39,7 +40,7 @@ children_from first (n ∷ ns) i = if holds_number i n.parent then first ∷ chi
 abbrev pub children_of : List NodeData → ℕ → List ℕ
 children_of nodes i = children_from 0 nodes i
 
--- the path of a child: behind its parent's path, which for the root is `/` alone
+-- the path of a child: its parent's path, `/` and its name; the root's path is not written twice
 abbrev pub child_path : NodeData → List ℕ → List ℕ
 child_path parent name = below parent.parent
   where
@@ -83,6 +84,10 @@ pub record IsWellFormed (t : TreeData) : Type 0 where
   pub preorder : (i p : ℕ) (n : NodeData) → slice_get t.nodes (i + 1) ≡ Some n → n.parent ≡ Some p → IsAtOrAbove t.nodes p i
   -- a node's children are the nodes whose parent it is, in rising order
   pub children : (i : ℕ) (n : NodeData) → slice_get t.nodes i ≡ Some n → n.children ≡ children_of t.nodes i
+  -- the root's name
+  pub root_name : (i : ℕ) (n : NodeData) → slice_get t.nodes i ≡ Some n → n.parent ≡ None → n.name ≡ codes "/"
+  -- every other name is one of the source format
+  pub names : (i p : ℕ) (n : NodeData) → slice_get t.nodes i ≡ Some n → n.parent ≡ Some p → is_node_name n.name ≡ true
   -- the root's path
   pub root_path : (i : ℕ) (n : NodeData) → slice_get t.nodes i ≡ Some n → n.parent ≡ None → n.path ≡ codes "/"
   -- every other path is the parent's with the name

@@ -2,10 +2,13 @@
 
 ghost use Rattle.std.specs.Prelude.{◌≡◌, ◌<◌, All, IfOk, length};
 ghost use Rattle.edt_base.specs.BoundData.{IsBound};
-ghost use Rattle.edt_base.specs.IndexData.{path_at};
-ghost use Rattle.edt_base.specs.Marks.{id_size, ords_at};
+ghost use Rattle.edt_base.specs.BoundNodeData.{buses_on};
+ghost use Rattle.edt_base.specs.Nodes.{path_at};
+ghost use Rattle.edt_base.specs.Ids.{id_size};
+ghost use Rattle.edt_base.specs.Ords.{ords_at};
 
-use crate::marks::{Ords, all_ords, id_lens};
+use crate::id_len::id_lens;
+use crate::ords::{Ords, all_ords};
 use crate::{Bytes, NodeId, Text, Tree};
 use std::alloc::{AllocError, Global};
 use std::marker::Model;
@@ -38,7 +41,7 @@ pub enum PropType {
 }
 
 /// An entry of a phandle-array: a controller and the cells of its specifier, after all nexus maps.
-#[derive(Debug, Drop)]
+#[derive(Drop)]
 pub struct Entry {
     /// The node at which the specifier ends.
     pub controller: NodeId,
@@ -58,7 +61,7 @@ impl Model for Entry {
 
 /// An interrupt that a node raises: the controller and the cells of its specifier, after all
 /// interrupt maps.
-#[derive(Debug, Drop)]
+#[derive(Drop)]
 pub struct Irq {
     /// The interrupt controller.
     pub controller: NodeId,
@@ -78,7 +81,7 @@ impl Model for Irq {
 }
 
 /// A register block, an entry of `reg` (Devicetree Specification v0.4, 2.3.6).
-#[derive(Debug, Drop)]
+#[derive(Drop)]
 pub struct Reg {
     /// The address as the root sees it, through all `ranges` above; none without address cells.
     pub addr: Option<u128>,
@@ -101,7 +104,7 @@ pub struct Range {
 }
 
 /// A property's value. Its variant goes with the property's type.
-#[derive(Debug, Drop)]
+#[derive(Drop)]
 pub enum Val {
     /// Of a boolean: whether the property is there.
     Bool(bool),
@@ -126,7 +129,7 @@ pub enum Val {
 }
 
 /// A property with its type, as the node's binding declares it.
-#[derive(Debug, Drop)]
+#[derive(Drop)]
 pub struct Prop {
     /// The name.
     pub name: Text,
@@ -149,7 +152,7 @@ impl Model for Prop {
 }
 
 /// What is bound to a node.
-#[derive(Debug, Drop)]
+#[derive(Drop)]
 pub struct BoundNode {
     /// The declared properties that have a value, in byte order of their names.
     pub props: Vec<Prop>,
@@ -190,7 +193,7 @@ impl Model for BoundNode {
 }
 
 /// The instances of a compatible string: the nodes that list it.
-#[derive(Debug, Drop)]
+#[derive(Drop)]
 pub struct Inst {
     /// The compatible string.
     pub compat: Text,
@@ -211,7 +214,7 @@ impl Model for Inst {
 
 /// The bound tree, from which the header is written. Contracts see it as the plain `BoundData`, and
 /// `IsBound` holds of it.
-#[derive(Debug, Drop)]
+#[derive(Drop)]
 pub struct Bound {
     /// The tree.
     pub tree: Tree,
@@ -221,7 +224,7 @@ pub struct Bound {
     pub order: Vec<NodeId>,
     /// One item for each compatible string of the tree, in byte order.
     pub insts: Vec<Inst>,
-    /// The places, rising and from 0, of the header's definitions that equal an earlier one.
+    /// The places, rising and counted from 0, of the header's definitions that equal an earlier one.
     pub doubles: Vec<u64>,
     id_lens: Vec<u64>,
     ords: Vec<Ords>,
@@ -230,7 +233,8 @@ pub struct Bound {
 impl Model for Bound {
     ghost use Rattle.std.specs.Prelude.{◌≡◌, map};
     ghost use Rattle.edt_base.specs.BoundData.{BoundData, IsBound};
-    ghost use Rattle.edt_base.specs.Marks.{id_size, ords_of};
+    ghost use Rattle.edt_base.specs.Ids.{id_size};
+    ghost use Rattle.edt_base.specs.Ords.{ords_of};
 
     ghost Value = { BoundData };
 
@@ -252,6 +256,19 @@ impl Model for Bound {
         })
         × (b.id_lens.items ≡ map (λ n. id_size n.path) b.tree.nodes)
         × (b.ords.items ≡ map (ords_of b.nodes.items) b.nodes.items) };
+}
+
+impl BoundNode {
+    /// The buses that the node is on: those that the binding of its bus node names, none where it is on
+    /// none. Takes no memory.
+    pub fn buses_on(&self) -> &[Text]
+        ensures { result.now ≡ buses_on self.now.bus self.now.buses }
+    {
+        match self.bus {
+            Some(_) => self.buses.as_slice(),
+            None => &[],
+        }
+    }
 }
 
 impl Bound {
@@ -292,7 +309,7 @@ impl Bound {
         })
     }
 
-    #[tactic(auto, unfolding(crate::specs::Marks::id_text))]
+    #[tactic(auto, unfolding(crate::specs::Ids::id_text))]
     /// The length of a node's id in the header, at most the greatest 64-bit number; that of an id past
     /// the nodes is the root's. Takes no memory.
     pub fn id_len(&self, id: NodeId) -> u64
@@ -330,56 +347,5 @@ impl Bound {
         ensures order_below { All (λ id. id < length self.now.nodes) self.now.order }
     {
         let _ = &self.nodes;
-    }
-}
-
-#[cfg(test)]
-mod tests {
-    use super::*;
-    use crate::NodeRec;
-    use indexmap::IndexMap;
-    use std::test::Fail;
-
-    #[test]
-    fn a_bound_tree_is_made_of_its_parts(rt: HostRuntime) -> Result<(), Fail> {
-        let alloc = rt.alloc();
-        let root = NodeRec {
-            name: Text::new(String::new(alloc)),
-            path: Text::new(String::from_str(alloc, "/")?),
-            parent: None,
-            children: Vec::new(alloc),
-            labels: Vec::new(alloc),
-            props: IndexMap::new(alloc),
-            compats: Vec::new(alloc),
-            status: Text::new(String::from_str(alloc, "okay")?),
-        };
-        let nodes = vec![in alloc; root]?;
-        let tree = Tree::new(alloc, nodes, Vec::new(alloc), Vec::new(alloc))?;
-        tree.is_well_formed();
-        let bare = BoundNode {
-            props: Vec::new(alloc),
-            regs: Vec::new(alloc),
-            ranges: Vec::new(alloc),
-            irqs: Vec::new(alloc),
-            needs: Vec::new(alloc),
-            supports: Vec::new(alloc),
-            ord: 0,
-            bus: None,
-            buses: Vec::new(alloc),
-        };
-        let bound_nodes = vec![in alloc; bare]?;
-        let order = vec![in alloc; NodeId(0)]?;
-        let bound = Bound::new(
-            alloc,
-            tree,
-            bound_nodes,
-            order,
-            Vec::new(alloc),
-            Vec::new(alloc),
-        )?;
-        bound.is_bound();
-        assert_eq!(rt; bound.nodes.len(), 1);
-        assert!(rt; bound.insts.is_empty());
-        Ok(())
     }
 }

@@ -1,7 +1,7 @@
 //! What the input is refused for: the broken rule, and where it was broken.
 
 ghost use Rattle.std.specs.Prelude.{◌≡◌, Some, alloc_error};
-ghost use Rattle.edt_base.specs.FaultText.{rule_code, place_text, fault_text};
+ghost use Rattle.edt_base.specs.FaultText.{rule_code, place_text, fault_text, is_limit};
 ghost use Rattle.edt_base.specs.declared.fault.End.TheVariants as ending;
 
 use crate::Text;
@@ -169,6 +169,26 @@ pub enum Rule {
 }
 
 impl Rule {
+    /// Whether the rule is a limit: a run that passes one ends with the status of limits.
+    pub fn is_limit(self) -> bool
+        ensures { result ≡ is_limit self }
+    {
+        match self {
+            Rule::L1
+            | Rule::L2
+            | Rule::L3
+            | Rule::L4
+            | Rule::L5
+            | Rule::L6
+            | Rule::L7
+            | Rule::L8
+            | Rule::L9
+            | Rule::L10
+            | Rule::C7 => true,
+            _ => false,
+        }
+    }
+
     /// The rule's code, as note lines show it.
     #[tactic(auto, unfolding(crate::specs::FaultText::rule_code))]
     fn code(self) -> &'static str
@@ -327,44 +347,5 @@ impl<T: Drop> From<AllocFailed<T>> for End {
 
     fn from(_e: AllocFailed<T>) -> End {
         End::Memory(AllocError)
-    }
-}
-
-#[cfg(test)]
-mod tests {
-    use super::*;
-    use std::alloc::Global;
-    use std::test::Fail;
-
-    fn text(alloc: Global, s: &str) -> Result<Text, AllocError> {
-        Ok(Text::new(String::from_str(alloc, s)?))
-    }
-
-    #[test]
-    fn a_fault_shows_its_rule_and_place(rt: HostRuntime) -> Result<(), Fail> {
-        let alloc = rt.alloc();
-        let mut out = String::new(alloc);
-        for fault in [
-            Fault {
-                rule: Rule::S1,
-                place: Place::Byte(text(alloc, "a.dts")?, 0),
-            },
-            Fault {
-                rule: Rule::C10,
-                place: Place::Line(text(alloc, "q")?, 12),
-            },
-            Fault {
-                rule: Rule::B1,
-                place: Place::File(text(alloc, "d/x.yaml")?),
-            },
-            Fault {
-                rule: Rule::V38,
-                place: Place::Node(text(alloc, "/b")?),
-            },
-        ] {
-            write!(out, "{fault}; ")?;
-        }
-        assert_eq!(rt; out.as_str(), "S1 a.dts:0; C10 q:12; B1 d/x.yaml; V38 /b; ");
-        Ok(())
     }
 }

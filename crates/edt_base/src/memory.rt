@@ -14,7 +14,7 @@ use std::alloc::{AllocError, Global};
 use std::marker::Model;
 
 /// Files in memory. They tell what they hold. Of a name that is held twice the first bytes count.
-#[derive(Debug, Drop)]
+#[derive(Drop)]
 pub struct MemFiles {
     held: Vec<(Text, Bytes)>,
     fail: Vec<u32>,
@@ -216,7 +216,7 @@ impl Files for MemFiles {
 }
 
 /// Files in memory that never fail: an absent file has no bytes, and an absent folder no names.
-#[derive(Debug, Drop)]
+#[derive(Drop)]
 pub struct GoodFiles {
     held: Vec<(Text, Bytes)>,
 }
@@ -255,7 +255,7 @@ impl Files for GoodFiles {
 }
 
 /// A sink in memory. It tells the bytes that it took.
-#[derive(Debug, Drop)]
+#[derive(Drop)]
 pub struct MemSink {
     taken: Vec<u8>,
     room: u64,
@@ -308,7 +308,7 @@ impl MemSink {
         is_listed(self.fail.as_slice(), call) || (len != 0 && self.taken.len() as u64 == self.room)
     }
 
-    /// Takes a front of a piece, as much as one write and the room allow.
+    /// Takes a prefix of a piece, as much as one write and the room allow.
     fn take(&mut self, piece: &[u8]) -> u64
         ensures taken { result ≡ taken_of self.old piece.now }
         ensures after { self.new ≡ record self.old { taken = self.old.taken ++ take result piece.now } }
@@ -349,7 +349,7 @@ impl Sink for MemSink {
 }
 
 /// A sink that never fails and keeps only the number of bytes that it took.
-#[derive(Debug, Drop)]
+#[derive(Drop)]
 pub struct NullSink {
     taken: u64,
 }
@@ -378,66 +378,5 @@ impl Sink for NullSink {
         let count = piece.len() as u64;
         self.taken = self.taken.saturating_add(count);
         Ok(count)
-    }
-}
-
-#[cfg(test)]
-mod tests {
-    use super::*;
-    use crate::write_text;
-    use std::test::Fail;
-
-    fn text(alloc: Global, s: &str) -> Result<Text, AllocError> {
-        Ok(Text::new(String::from_str(alloc, s)?))
-    }
-
-    fn held(alloc: Global) -> Result<Vec<(Text, Bytes)>, AllocError> {
-        let mut held = Vec::new(alloc);
-        for name in ["d/x/b.yml", "d/a.yaml", "d/a.txt", "dd/c.yaml", "e.yaml"] {
-            let bytes = Bytes::new(Vec::from_slice(alloc, name.as_bytes())?);
-            held.push((text(alloc, name)?, bytes))?;
-        }
-        Ok(held)
-    }
-
-    #[test]
-    fn files_list_and_read(rt: HostRuntime) -> Result<(), Fail> {
-        let alloc = rt.alloc();
-        let folder = text(alloc, "d")?;
-        let file = text(alloc, "d/a.txt")?;
-        let mut files = MemFiles::new(held(alloc)?, vec![in alloc; 4]?);
-        let mut shown = String::new(alloc);
-        for name in &files.list(alloc, &folder, 2).ok().ok_or("no names")? {
-            write!(shown, "{} ", name.as_str())?;
-        }
-        assert_eq!(rt; shown.as_str(), "d/a.yaml d/x/b.yml ");
-        assert!(rt; matches!(files.list(alloc, &folder, 1), Err(ReadEnd::TooBig)));
-        assert!(rt; matches!(files.list(alloc, &file, 9), Err(ReadEnd::Failed)));
-        assert!(rt; matches!(files.read(alloc, &file, 9), Err(ReadEnd::Failed)));
-        assert!(rt;
-            matches!(files.read(alloc, &file, 7), Ok(bytes) if bytes.as_slice().len() == 7)
-        );
-        assert!(rt; matches!(files.read(alloc, &file, 6), Err(ReadEnd::TooBig)));
-        assert!(rt; matches!(files.read(alloc, &folder, 6), Err(ReadEnd::Failed)));
-
-        let mut good = GoodFiles::new(held(alloc)?);
-        assert!(rt; matches!(good.list(alloc, &file, 9), Ok(names) if names.is_empty()));
-        assert!(rt;
-            matches!(good.read(alloc, &folder, 9), Ok(bytes) if bytes.as_slice().is_empty())
-        );
-        assert!(rt; matches!(good.read(alloc, &file, 9), Ok(bytes) if bytes.as_slice().len() == 7));
-        Ok(())
-    }
-
-    #[test]
-    fn sinks_take_what_they_have_room_for(rt: HostRuntime) -> Result<(), Fail> {
-        let alloc = rt.alloc();
-        let mut sink = MemSink::new(alloc, 5, 2, vec![in alloc; 3]?)?;
-        assert!(rt; write_text(&mut sink, b"abcdefg").is_err());
-        assert_eq!(rt; sink.bytes(), b"abcd".as_slice());
-        assert!(rt; write_text(&mut sink, b"efg").is_err());
-        assert_eq!(rt; sink.bytes(), b"abcde".as_slice());
-        assert!(rt; write_text(&mut NullSink::new(), b"abc").is_ok());
-        Ok(())
     }
 }

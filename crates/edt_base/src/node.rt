@@ -2,9 +2,11 @@
 
 ghost use Rattle.std.specs.Prelude.{◌≡◌, ◌+◌, ◌<◌, ◌≤◌, ◌++◌, IfSome, IfNone, option_map, length, take};
 ghost use Rattle.edt_base.specs.NodeData.{prop_of, one_cell, phandle_of, is_cells};
+ghost use Rattle.edt_base.specs.Refusals.{IsFaultAt, IsToldAs};
 
-use crate::{Bytes, Text};
+use crate::{Bytes, End, Fault, Place, Rule, Stop, Text};
 use indexmap::IndexMap;
+use std::alloc::Global;
 use std::marker::Model;
 
 /// A node's place among the tree's nodes, which stand in preorder. The root's is 0.
@@ -60,7 +62,7 @@ pub struct Part {
 }
 
 /// A property's value: its parts in order, none for a property without a value.
-#[derive(Debug, Drop)]
+#[derive(Drop)]
 pub struct PropVal {
     /// The parts.
     pub parts: Vec<Part>,
@@ -76,7 +78,7 @@ impl Model for PropVal {
 }
 
 /// A node. Contracts see it as the plain `NodeData`.
-#[derive(Debug, Drop)]
+#[derive(Drop)]
 pub struct NodeRec {
     /// The name with its unit address; the root's is `/`.
     pub name: Text,
@@ -114,8 +116,16 @@ impl Model for NodeRec {
 }
 
 impl NodeRec {
+    /// The nodes that stand in it.
+    pub fn children(&self) -> &[NodeId]
+        ensures { result.now ≡ self.now.children }
+    {
+        self.children.as_slice()
+    }
+
     /// The value of the property of this name; None exactly where the node has no such property.
-    /// Takes no memory.
+    /// Goes over the properties; of a node of a tree `Tree::prop` tells it in logarithmic time. Takes
+    /// no memory.
     pub fn prop(&self, name: &str) -> Option<&PropVal>
         ensures { option_map (λ v. v.now) result ≡ prop_of name.now self.now.props }
     {
@@ -127,11 +137,45 @@ impl NodeRec {
         None
     }
 
-    /// The number of the property `phandle` where that is one cell, else none. Takes no memory.
-    pub(crate) fn phandle(&self) -> Option<u32>
+    /// This rule is broken at this node: the fault, or that memory for the path was wanted.
+    pub fn fault(&self, alloc: Global, rule: Rule) -> End
+        ensures { IsFaultAt rule self.now.path result }
+    {
+        match self.path.copy(alloc) {
+            Ok(path) => End::Fault(Fault {
+                rule,
+                place: Place::Node(path),
+            }),
+            Err(e) => End::Memory(e),
+        }
+    }
+
+    /// The same of why its value isn't read to its end.
+    pub fn told(&self, alloc: Global, stop: Stop) -> End
+        ensures { IsToldAs stop self.now.path result }
+    {
+        match stop {
+            Stop::Broken(rule) => self.fault(alloc, rule),
+            Stop::Memory(e) => End::Memory(e),
+        }
+    }
+
+    /// The node's phandle: the number of its property `phandle`, where that is one cell, whose parts are
+    /// all of cells. Takes no memory.
+    pub fn phandle(&self) -> Option<u32>
         ensures { result ≡ phandle_of self.now }
     {
-        cell_in(self.prop("phandle")?.parts.as_slice())
+        self.prop("phandle")?.one_cell()
+    }
+}
+
+impl PropVal {
+    /// The number of a value that is one cell: all its parts are of cells, and they have 4 bytes
+    /// together. Takes no memory.
+    pub fn one_cell(&self) -> Option<u32>
+        ensures { result ≡ one_cell self.now }
+    {
+        cell_in(self.parts.as_slice())
     }
 }
 
@@ -166,7 +210,7 @@ fn cell_in(parts: &[Part]) -> Option<u32>
     }
 }
 
-// Puts bytes behind those that a cell has so far, and says how many it has then; None where they are
+// Puts bytes after those that a cell has so far, and says how many it has then; None where they are
 // too many.
 fn fill(cell: &mut [u8; 4], filled: usize, bytes: &[u8]) -> Option<usize>
     requires { filled ≤ 4 }

@@ -14,7 +14,7 @@ use std::alloc::{AllocError, AllocFailed, Global};
 use thiserror::Error;
 
 /// A call of the outside that reads.
-#[derive(Debug, Drop)]
+#[derive(Drop)]
 pub enum Call {
     /// A listing of the folder of this name.
     List(Text),
@@ -91,7 +91,7 @@ pub trait Files {
 pub trait Sink {
     ghost seen: { Self → SinkSeen };
 
-    /// Takes a front of the piece, at least one byte of a piece that isn't empty, and says how many
+    /// Takes a prefix of the piece, at least one byte of a piece that isn't empty, and says how many
     /// bytes it took. After `WriteFailed` the bytes so far are as before.
     fn write(&mut self, piece: &[u8]) -> Result<u64, WriteFailed>
         ensures taken { IfOk result (λ n. (n ≤ length piece.now) × (0 < length piece.now → 0 < n)
@@ -121,7 +121,7 @@ pub fn is_binding_below(dir: &Text, name: &Text) -> bool
     is_below(dir, name) && (bytes.ends_with(b".yaml") || bytes.ends_with(b".yml"))
 }
 
-/// Writes a text, piece by piece as the sink takes it. With `WriteFailed` a front of it was written.
+/// Writes a text, piece by piece as the sink takes it. With `WriteFailed` a prefix of it was written.
 /// Takes no memory.
 pub fn write_text<S: Sink>(out: &mut S, text: &[u8]) -> Result<(), WriteFailed>
     ensures { Wrote (S.seen out.old) (S.seen out.new) text.now (is_ok result) }

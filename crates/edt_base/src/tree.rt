@@ -1,17 +1,18 @@
 //! The tree: nodes in preorder with what `/aliases` and `/chosen` name.
 
-ghost use Rattle.std.specs.Prelude.{◌≡◌, ◌<◌, Some, IfOk, length, position, slice_get};
+ghost use Rattle.std.specs.Prelude.{◌≡◌, ◌<◌, ◌∷◌, [], All, Some, IfOk, IfSome, MatchOption, length, option_map, position, slice_get};
 ghost use Rattle.edt_base.specs.NodeData.{has_path, has_label, has_phandle};
-ghost use Rattle.edt_base.specs.TreeData.{IsWellFormed};
+ghost use Rattle.edt_base.specs.Nodes.{children_at, is_okay, okay_of, prop_at};
+ghost use Rattle.edt_base.specs.TreeData.{IsWellFormed, parent_of};
 
 use crate::index::Index;
-use crate::{NodeId, NodeRec, Text};
+use crate::{NodeId, NodeRec, PropVal, Text};
 use std::alloc::{AllocError, Global};
 use std::marker::Model;
 
 /// A devicetree. Contracts see its nodes, aliases and chosen nodes as the plain `TreeData`, and every
 /// tree is well formed, as `IsWellFormed` says field by field.
-#[derive(Debug, Drop)]
+#[derive(Drop)]
 pub struct Tree {
     nodes: Vec<NodeRec>,
     aliases: Vec<(Text, NodeId)>,
@@ -21,7 +22,7 @@ pub struct Tree {
 
 impl Model for Tree {
     ghost use Rattle.edt_base.specs.TreeData.{TreeData, IsWellFormed};
-    ghost use Rattle.edt_base.specs.IndexData.{IsIndexOf};
+    ghost use Rattle.edt_base.specs.Inner.IndexData.{IsIndexOf};
 
     ghost Value = { TreeData };
 
@@ -89,9 +90,90 @@ impl Tree {
         &self.nodes[id.0 as usize]
     }
 
+    /// The parent of a node, whose place must be below the number of nodes; None for the root. A
+    /// parent stands before its children. Takes no memory.
+    pub fn parent(&self, id: NodeId) -> Option<NodeId>
+        requires { id < length self.now.nodes }
+        ensures parent { result ≡ parent_of self.now.nodes id }
+        ensures before { IfSome result (λ up. up < id) }
+        ensures there { IfSome result (λ up. up < length self.now.nodes) }
+    {
+        self.is_well_formed();
+        self.node(id).parent
+    }
+
+    /// The children of a node, whose place must be below the number of nodes, in preorder. Takes no
+    /// memory.
+    pub fn children(&self, id: NodeId) -> &[NodeId]
+        requires { id < length self.now.nodes }
+        ensures children { result.now ≡ children_at self.now.nodes id }
+        ensures there { All (λ child. child < length self.now.nodes) result.now }
+    {
+        self.is_well_formed();
+        self.node(id).children()
+    }
+
+    /// Whether a node is okay: its status is `okay`, which an absent one and `ok` count as too. None past
+    /// the nodes is. Takes no memory.
+    pub fn is_okay(&self, id: NodeId) -> bool
+        ensures { result ≡ is_okay self.now.nodes id }
+    {
+        match self.nodes.get(id.0 as usize) {
+            Some(node) => node.status.as_str() == "okay",
+            None => false,
+        }
+    }
+
+    /// The first of some nodes that is okay, and those after it. Takes no memory.
+    pub fn next_okay<'a>(&self, ids: &'a [NodeId]) -> Option<(NodeId, &'a [NodeId])>
+        ensures { MatchOption result (okay_of self.now.nodes ids.now ≡ [])
+            (λ r. okay_of self.now.nodes ids.now ≡ r.0 ∷ okay_of self.now.nodes r.1.now) }
+    {
+        let mut left = ids;
+        while let Some((id, rest)) = left.split_first() {
+            if self.is_okay(*id) {
+                return Some((*id, rest));
+            }
+            left = rest;
+        }
+        None
+    }
+
+    /// How many of some nodes are okay. Takes no memory.
+    pub fn okay_count(&self, ids: &[NodeId]) -> usize
+        ensures { result ≡ length (okay_of self.now.nodes ids.now) }
+    {
+        let mut count: usize = 0;
+        let mut left = ids;
+        while let Some((id, rest)) = left.split_first() {
+            if self.is_okay(*id) {
+                count += 1;
+            }
+            left = rest;
+        }
+        count
+    }
+
+    /// The value of a node's property of this name; None exactly where the node has no such property.
+    /// The node's place must be below the number of nodes. Logarithmic in the number of the node's
+    /// properties; takes no memory.
+    pub fn prop(&self, id: NodeId, name: &str) -> Option<&PropVal>
+        requires { id < length self.now.nodes }
+        ensures { option_map (λ v. v.now) result ≡ prop_at self.now.nodes id name.now }
+    {
+        self.index.prop(self.nodes.as_slice(), id, name)
+    }
+
     /// The node of this path; None exactly where no node has it. Logarithmic in the number of nodes;
     /// takes no memory.
     pub fn find(&self, path: &Text) -> Option<NodeId>
+        ensures { result ≡ position (has_path path.now) self.now.nodes }
+    {
+        self.find_str(path.as_str())
+    }
+
+    /// The same of a path that is no `Text`.
+    pub fn find_str(&self, path: &str) -> Option<NodeId>
         ensures { result ≡ position (has_path path.now) self.now.nodes }
     {
         self.index.find(self.nodes.as_slice(), path)
@@ -111,43 +193,5 @@ impl Tree {
         ensures { result ≡ position (has_phandle n) self.now.nodes }
     {
         self.index.by_phandle(self.nodes.as_slice(), n)
-    }
-}
-
-#[cfg(test)]
-mod tests {
-    use super::*;
-    use crate::a_root_alone_is_well_formed;
-    use indexmap::IndexMap;
-    use std::test::Fail;
-
-    fn text(alloc: Global, s: &str) -> Result<Text, AllocError>
-        ensures { IfOk result (λ t. t ≡ s.now) }
-    {
-        Ok(Text::new(String::from_str(alloc, s)?))
-    }
-
-    #[test]
-    fn a_tree_finds_its_root(rt: HostRuntime) -> Result<(), Fail> {
-        let alloc = rt.alloc();
-        let root = NodeRec {
-            name: text(alloc, "")?,
-            path: text(alloc, "/")?,
-            parent: None,
-            children: Vec::new(alloc),
-            labels: Vec::new(alloc),
-            props: IndexMap::new(alloc),
-            compats: Vec::new(alloc),
-            status: text(alloc, "okay")?,
-        };
-        let mut nodes = Vec::new(alloc);
-        nodes.push(root)?;
-        a_root_alone_is_well_formed();
-        let tree = Tree::new(alloc, nodes, Vec::new(alloc), Vec::new(alloc))?;
-        assert_eq!(rt; tree.find(&text(alloc, "/")?), Some(NodeId(0)));
-        assert_eq!(rt; tree.find(&text(alloc, "/a")?), None);
-        assert_eq!(rt; tree.by_label(&text(alloc, "a")?), None);
-        assert_eq!(rt; tree.by_phandle(1), None);
-        Ok(())
     }
 }

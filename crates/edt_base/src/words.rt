@@ -6,7 +6,7 @@ use crate::Text;
 use std::marker::Model;
 
 /// The words after the program's name, in their order.
-#[derive(Debug, Drop)]
+#[derive(Drop)]
 pub struct Words {
     inner: Vec<Text>,
 }

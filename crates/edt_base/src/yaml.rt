@@ -24,26 +24,3 @@ pub enum Yaml {
     /// A scalar of a number's characters that is no whole number, as `1.5`. Its text isn't kept.
     Other,
 }
-
-#[cfg(test)]
-mod tests {
-    use super::*;
-    use std::test::Fail;
-
-    #[test]
-    fn values_nest(rt: HostRuntime) -> Result<(), Fail> {
-        let alloc = rt.alloc();
-        let mut list = Vec::new(alloc);
-        list.push(Yaml::Bool(true))?;
-        list.push(Yaml::Null)?;
-        let mut pairs = Vec::new(alloc);
-        for (key, value) in [("a", Yaml::Int(-1)), ("b", Yaml::List(list))] {
-            pairs.push((Text::new(String::from_str(alloc, key)?), value))?;
-        }
-        assert_eq!(rt; pairs.len(), 2);
-        assert!(rt; matches!(&pairs[0].1, Yaml::Int(-1)));
-        assert!(rt; matches!(&pairs[1].1, Yaml::List(items) if items.len() == 2));
-        assert!(rt; matches!(Yaml::Map(pairs), Yaml::Map(_)));
-        Ok(())
-    }
-}

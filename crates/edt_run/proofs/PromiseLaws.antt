@@ -2,7 +2,7 @@
 use Rattle.std.proofs.Common.{◌≡◌, ◌+◌, ◌-◌, ◌^◌, ◌<◌, ◌≤◌, ◌++◌, ◌∙◌, ◌⊎◌, ℕ, List, [], ◌∷◌, Option, Some, None, IfSome, IsTrue, length, refl, sym, ap, subst, true, false, Bool, if◌then◌else◌, inl, inr, arith}
 use Rattle.std.proofs.lemmas.List.{append-nil}
 use Rattle.edt_base.specs.declared.outside.Call.{Call}
-use Rattle.edt_base.specs.Outside.{FilesSeen, SinkSeen, Rose, Gains, GainsFront, IsSure, Wrote, held_of}
+use Rattle.edt_base.specs.Outside.{FilesSeen, SinkSeen, Rose, Gains, GainsPrefix, IsSure, Wrote, held_of}
 use Rattle.edt_run.specs.declared.top.Status.{Status}
 use Rattle.edt_run.specs.declared.top.Status.TheVariants as status
 use Rattle.edt_run.specs.Answer.{Answer, usage_line, write_line, memory_line, read_line}
@@ -60,7 +60,7 @@ cause_as r status.Limit wanted is h = (wanted, h, is, refl)
 -- ---- what the output gained
 
 -- whatever became of writing a text, a prefix of it was gained
-gained_prefix : (old new : SinkSeen) (text : List ℕ) (written : Bool) → Wrote old new text written → GainsFront old new text
+gained_prefix : (old new : SinkSeen) (text : List ℕ) (written : Bool) → Wrote old new text written → GainsPrefix old new text
 gained_prefix old new text true wrote = (text, [], sym (append-nil text), wrote.taken)
 gained_prefix old new text false wrote = wrote.taken.1
 
@@ -69,11 +69,11 @@ nil_before [] ys e = refl
 nil_before (x ∷ xs) ys e = cc
 
 -- of no text nothing was gained
-gained_nothing : (old new : SinkSeen) (text : List ℕ) → text ≡ [] → GainsFront old new text → Gains old new []
+gained_nothing : (old new : SinkSeen) (text : List ℕ) → text ≡ [] → GainsPrefix old new text → Gains old new []
 gained_nothing old new text none gained =
     subst (λ t. Gains old new t) (nil_before gained.0 gained.1 (sym gained.2 ∙ none)) gained.3
 
-nothing_is_prefix : (old new : SinkSeen) (text : List ℕ) → Gains old new [] → GainsFront old new text
+nothing_is_prefix : (old new : SinkSeen) (text : List ℕ) → Gains old new [] → GainsPrefix old new text
 nothing_is_prefix old new text gained = ([], text, refl, gained)
 
 longer_sure : (old new : SinkSeen) (m n : ℕ) → m ≤ n → IsSure old new m → IsSure old new n
@@ -95,7 +95,7 @@ steps_of r ran = record { files = ran.files; idle = ran.idle; cause = ran.cause;
 either_in : (r : Run) (wanted : Answer) (written noted : Bool) → Steps r wanted written noted → IsEither r.files_old r.files_new (job_of r.words) wanted.status wanted
 either_in r wanted written noted steps = either r.files_old r.files_new (job_of r.words) wanted.status wanted steps.cause
 
-prefix_in : (r : Run) (wanted : Answer) (written noted : Bool) → Steps r wanted written noted → GainsFront r.out_old r.out_new wanted.text
+prefix_in : (r : Run) (wanted : Answer) (written noted : Bool) → Steps r wanted written noted → GainsPrefix r.out_old r.out_new wanted.text
 prefix_in r wanted written noted steps = gained_prefix r.out_old r.out_new wanted.text written steps.output
 
 -- with a status other than 4, the status is what was wanted, and all was written
@@ -128,8 +128,8 @@ keeps_answer r wanted e whole plain =
     (wanted, plain_answer r.files_old r.files_new (job_of r.words) wanted.status wanted (subst (λ s. IsTrue (is_plain s)) whole.status plain) e,
     whole.status, whole.gained, whole.noted)
 
-keeps_output : (r : Run) (wanted : Answer) → IsEither r.files_old r.files_new (job_of r.words) wanted.status wanted → GainsFront r.out_old r.out_new wanted.text
-    → Gains r.out_old r.out_new [] ⊎ ((answer : Answer) × (IsAnswerIn r answer) × GainsFront r.out_old r.out_new answer.text)
+keeps_output : (r : Run) (wanted : Answer) → IsEither r.files_old r.files_new (job_of r.words) wanted.status wanted → GainsPrefix r.out_old r.out_new wanted.text
+    → Gains r.out_old r.out_new [] ⊎ ((answer : Answer) × (IsAnswerIn r answer) × GainsPrefix r.out_old r.out_new answer.text)
 keeps_output r wanted (inl h) gained = inr (wanted, h, gained)
 keeps_output r wanted (inr h) gained = inl (gained_nothing r.out_old r.out_new wanted.text (stop_text r.files_old r.files_new (job_of r.words) wanted.status wanted h) gained)
 
@@ -155,9 +155,9 @@ complete_either r wanted answer true true steps (inr h) none = inr (steps.status
 complete_either r wanted answer true false steps e none = absurd (none.note steps.note.taken.0)
 complete_either r wanted answer false noted steps e none = absurd (none.out steps.output.taken.0)
 
-prefix_either : (r : Run) (wanted answer : Answer) → GainsFront r.out_old r.out_new wanted.text
-    → (wanted ≡ answer) ⊎ IsStop r.files_old r.files_new (job_of r.words) wanted.status wanted → GainsFront r.out_old r.out_new answer.text
-prefix_either r wanted answer gained (inl same) = subst (λ (a : Answer). GainsFront r.out_old r.out_new a.text) same gained
+prefix_either : (r : Run) (wanted answer : Answer) → GainsPrefix r.out_old r.out_new wanted.text
+    → (wanted ≡ answer) ⊎ IsStop r.files_old r.files_new (job_of r.words) wanted.status wanted → GainsPrefix r.out_old r.out_new answer.text
+prefix_either r wanted answer gained (inl same) = subst (λ (a : Answer). GainsPrefix r.out_old r.out_new a.text) same gained
 prefix_either r wanted answer gained (inr h) =
     nothing_is_prefix r.out_old r.out_new answer.text (gained_nothing r.out_old r.out_new wanted.text (stop_text r.files_old r.files_new (job_of r.words) wanted.status wanted h) gained)
 

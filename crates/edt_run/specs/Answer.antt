@@ -1,12 +1,11 @@
 -- An answer of a run, and what the reads of a job gave.
-use Rattle.std.specs.Prelude.{◌≡◌, ◌-◌, ◌++◌, ℕ, Bool, true, false, List, [], ◌∷◌, Option, Some, None, IfSome, codes, length, map, nat_lt, if◌then◌else◌}
+use Rattle.std.specs.Prelude.{◌≡◌, ◌-◌, ◌++◌, ℕ, List, [], ◌∷◌, Option, Some, None, IfSome, codes, length, map, nat_lt, if◌then◌else◌}
 use Rattle.edt_base.specs.declared.fault.Fault.{Fault}
 use Rattle.edt_base.specs.declared.fault.Rule.TheVariants as rule
 use Rattle.edt_base.specs.declared.fault.Place.TheVariants as place
 use Rattle.edt_base.specs.declared.outside.Call.{Call}
 use Rattle.edt_base.specs.declared.outside.Call.TheVariants as call
-use Rattle.edt_base.specs.FaultText.{fault_text}
-use Rattle.edt_base.specs.declared.fault.Rule.{Rule}
+use Rattle.edt_base.specs.FaultText.{fault_text, is_limit}
 use Rattle.edt_base.specs.Outside.{content}
 use Rattle.edt_run.specs.Job.{JobData}
 use Rattle.edt_run.specs.declared.top.Status.{Status}
@@ -29,11 +28,6 @@ refusal said line = record { status = said; text = []; line = line }
 -- the line of a fault: its rule and its place
 abbrev pub fault_line : Fault → List ℕ
 fault_line fault = codes "edt: " ++ (fault_text fault ++ codes "\n")
-
--- TEMP
-abbrev pub is_limit : Rule → Bool
-is_limit rule.L1 = true
-is_limit _ = false
 
 -- a broken rule is refused with status 1, a limit that is passed with status 6
 abbrev pub refused : Fault → Answer

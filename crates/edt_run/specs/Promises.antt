@@ -2,7 +2,7 @@
 use Rattle.std.specs.Prelude.{◌≡◌, ◌-◌, ◌^◌, ◌<◌, ◌≤◌, ◌⊎◌, ℕ, Bool, true, false, IsTrue, List, [], ◌∷◌, Option, Some, None, MatchOption, IfSome, Contains, length, unwrap_or, if◌then◌else◌}
 use Rattle.edt_base.specs.declared.outside.Call.{Call}
 use Rattle.edt_base.specs.declared.outside.Call.TheVariants as call
-use Rattle.edt_base.specs.Outside.{FilesSeen, SinkSeen, Rose, Gains, GainsFront, IsSure, Wrote, held_of}
+use Rattle.edt_base.specs.Outside.{FilesSeen, SinkSeen, Rose, Gains, GainsPrefix, IsSure, Wrote, held_of}
 use Rattle.edt_run.specs.declared.asked.Cmd.{Cmd}
 use Rattle.edt_run.specs.declared.asked.Cmd.TheVariants as cmd
 use Rattle.edt_run.specs.declared.top.Status.{Status}
@@ -109,11 +109,11 @@ pub record KeepsPromises (r : Run) : Type 0 where
   pub answer : IsTrue (is_plain r.status) → (answer : Answer) × (IsAnswerIn r answer) × (r.status ≡ answer.status)
       × (Gains r.out_old r.out_new answer.text) × (Gains r.note_old r.note_new answer.line)
   -- whatever the status: the output is as it was, or gained a prefix of an answer's text
-  pub output : Gains r.out_old r.out_new [] ⊎ ((answer : Answer) × (IsAnswerIn r answer) × GainsFront r.out_old r.out_new answer.text)
+  pub output : Gains r.out_old r.out_new [] ⊎ ((answer : Answer) × (IsAnswerIn r answer) × GainsPrefix r.out_old r.out_new answer.text)
   -- where the files tell what they hold and nothing failed, the run ends with its answer or with want of memory
   pub complete : OfAnswer r (λ answer. NothingRose r → (r.status ≡ answer.status) ⊎ (r.status ≡ status.Memory))
   -- where the files tell: whatever the status, the output gained a prefix of the answer's text
-  pub prefix : OfAnswer r (λ answer. GainsFront r.out_old r.out_new answer.text)
+  pub prefix : OfAnswer r (λ answer. GainsPrefix r.out_old r.out_new answer.text)
   -- where the files tell: an output that is sure of room for the answer's text doesn't fail
   pub sure : OfAnswer r (λ answer. length answer.text ≤ r.out_old.room → IsSure r.out_old r.out_new (length answer.text))
   -- status 2 comes only on words that are no job, and its line was gained

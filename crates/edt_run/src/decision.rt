@@ -3,7 +3,7 @@
 
 ghost use Rattle.std.specs.Prelude.{◌≡◌, ◌≤◌, IfOk, Some, length};
 ghost use Rattle.edt_base.specs.Outside.{held_of};
-ghost use Rattle.edt_run.specs.Answer.{refused, is_limit};
+ghost use Rattle.edt_run.specs.Answer.{refused};
 ghost use Rattle.edt_run.specs.Promises.{IsAnswerOf};
 ghost use Rattle.edt_run.specs.SmallAnswer.{IsSmallAnswer};
 ghost use Rattle.edt_run.specs.Steps.{IsRefusedBy, IsWanted, wanted_of};
@@ -92,20 +92,11 @@ fn small_header(alloc: Global, name: &Text, source: &Bytes) -> Result<Decision, 
 fn refuse(alloc: Global, fault: Fault) -> Result<Decision, AllocError>
     ensures { IfOk result (λ d. wanted_of d ≡ refused fault) }
 {
-    let status = if is_limit(fault.rule) {
+    let status = if fault.rule.is_limit() {
         Status::Limit
     } else {
         Status::Rule
     };
     let line = format!(in alloc; "edt: {fault}\n")?;
     Ok(Decision::Refusal(status, line))
-}
-
-fn is_limit(rule: Rule) -> bool
-    ensures { result ≡ is_limit rule }
-{
-    match rule {
-        Rule::L1 => true,
-        _ => false,
-    }
 }

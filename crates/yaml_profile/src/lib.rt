@@ -13,8 +13,6 @@ mod reader;
 mod rest;
 mod scalar;
 mod stop;
-#[cfg(test)]
-mod tests;
 mod texts;
 mod values;
 

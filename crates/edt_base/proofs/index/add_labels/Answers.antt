@@ -1,7 +1,7 @@
 use Rattle.std.proofs.Common.{ℕ, List, [], ◌∷◌, ◌++◌, sym, ap, ◌∙◌, arith, append_assoc}
 use Rattle.std.proofs.lemmas.List.FromFn.{map-range_with_len_more}
 use Rattle.edt_base.specs.declared.index.LabelPlace.{LabelPlace}
-use Rattle.edt_base.specs.IndexData.{label_places}
+use Rattle.edt_base.specs.Inner.IndexData.{label_places}
 use Rattle.edt_base.proofs.index.add_labels.Goals as goal
 
 pub loop-label-preserved : goal.loop-label-preserved

@@ -1,5 +1,5 @@
 use Rattle.std.proofs.Common.{◌≡◌, ◌++◌}
-use Rattle.edt_base.specs.IndexData.{label_places}
+use Rattle.edt_base.specs.Inner.IndexData.{label_places}
 use Rattle.edt_base.proofs.index.add_labels.Given as goal
 
 abbrev pub invariant-loop-label : goal.invariant-loop-label

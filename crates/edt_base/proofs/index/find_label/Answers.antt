@@ -6,7 +6,7 @@ use Rattle.std.proofs.lemmas.List.Sorted.{searchable_from_sorted}
 use Rattle.std.proofs.lemmas.Fn.{always_returns_same}
 use Rattle.edt_base.specs.declared.index.LabelPlace.{LabelPlace}
 use Rattle.edt_base.specs.NodeData.{has_label}
-use Rattle.edt_base.specs.IndexData.{label_at, IsFound}
+use Rattle.edt_base.specs.Inner.IndexData.{label_at, IsFound}
 use Rattle.edt_base.proofs.IndexLemmas.{index_found, index_absent, texts_equal}
 use Rattle.edt_base.proofs.index.find_label.Goals as goal
 

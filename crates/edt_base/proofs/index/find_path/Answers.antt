@@ -5,7 +5,7 @@ use Rattle.std.specs.Cmp.Lexicographic.{nat_list_cmp_total, slice_cmp}
 use Rattle.std.proofs.lemmas.List.Sorted.{searchable_from_sorted}
 use Rattle.std.proofs.lemmas.Fn.{always_returns_same}
 use Rattle.edt_base.specs.NodeData.{has_path}
-use Rattle.edt_base.specs.IndexData.{path_at}
+use Rattle.edt_base.specs.Nodes.{path_at}
 use Rattle.edt_base.proofs.IndexLemmas.{index_found, index_absent, texts_equal}
 use Rattle.edt_base.proofs.index.find_path.Goals as goal
 

@@ -5,7 +5,7 @@ use Rattle.std.proofs.lemmas.List.Sorted.{searchable_from_sorted}
 use Rattle.std.proofs.lemmas.Fn.{always_returns_same}
 use Rattle.edt_base.specs.NodeData.{has_phandle}
 use Rattle.edt_base.specs.declared.index.PhandlePlace.{PhandlePlace}
-use Rattle.edt_base.specs.IndexData.{IsFound}
+use Rattle.edt_base.specs.Inner.IndexData.{IsFound}
 use Rattle.edt_base.proofs.IndexLemmas.{index_found, index_absent, numbers_equal}
 use Rattle.edt_base.proofs.index.find_phandle.Goals as goal
 

@@ -1,5 +1,5 @@
 use Rattle.std.proofs.Common.{◌≡◌, ◌++◌, drop}
-use Rattle.edt_base.specs.IndexData.{entries_from, label_entries}
+use Rattle.edt_base.specs.Inner.IndexData.{entries_from, label_entries}
 use Rattle.edt_base.proofs.index.list_labels.Given as goal
 
 abbrev pub invariant-loop-i : goal.invariant-loop-i

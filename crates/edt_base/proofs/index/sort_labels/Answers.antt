@@ -2,7 +2,7 @@ use Rattle.std.proofs.Common.{rules}
 use Rattle.std.specs.Cmp.Lexicographic.{nat_list_cmp_total}
 use Rattle.std.proofs.lemmas.List.Sorted.{ranks_by}
 use Rattle.std.proofs.lemmas.Fn.{always_returns_same}
-use Rattle.edt_base.specs.IndexData.{label_at}
+use Rattle.edt_base.specs.Inner.IndexData.{label_at}
 use Rattle.edt_base.proofs.index.sort_labels.Goals as goal
 
 pub returns-clause-sorted : goal.returns-clause-sorted
