@@ -204,11 +204,8 @@ fn next_thing<'a>(things: Visited<'a>) -> Option<(Thing<'a>, Visited<'a>)>
             ))
         }
         Visited::OkayIds(bound, ids) => {
-            let (id, rest) = bound.tree.next_okay(ids)?;
-            Some((
-                Thing::Id(Id::of(bound, id.0 as usize)),
-                Visited::OkayIds(bound, rest),
-            ))
+            let (id, rest) = next_okay(bound, ids)?;
+            Some((Thing::Id(Id::of(bound, id)), Visited::OkayIds(bound, rest)))
         }
         Visited::Elems(id, name, places) => {
             let (place, rest) = places.split_first()?;
@@ -239,6 +236,17 @@ fn is_okay(bound: &Bound, node: usize) -> bool
     match bound.tree.nodes().get(node) {
         Some(node) => node.status.as_str() == "okay",
         None => false,
+    }
+}
+
+// The first of these nodes that is okay, and those after it.
+fn next_okay<'a>(bound: &Bound, ids: &'a [NodeId]) -> Option<(usize, &'a [NodeId])>
+    ensures { MatchOption result (okay_of bound.now.tree.nodes ids.now ≡ [])
+        (λ r. okay_of bound.now.tree.nodes ids.now ≡ r.0 ∷ okay_of bound.now.tree.nodes r.1.now) }
+{
+    match bound.tree.next_okay(ids) {
+        Some((id, rest)) => Some((id.0 as usize, rest)),
+        None => None,
     }
 }
 
