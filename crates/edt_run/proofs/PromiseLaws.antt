@@ -3,7 +3,7 @@ use Rattle.std.proofs.Common.{◌≡◌, ◌-◌, ◌^◌, ◌<◌, ◌≤◌, �
 use Rattle.std.proofs.lemmas.List.{append-nil}
 use Rattle.std.specs.Option.{unwrap_or}
 use Rattle.edt_base.specs.declared.outside.Call.TheVariants as call
-use Rattle.edt_base.specs.Outside.{FilesSeen, SinkSeen, Rose, Gains, GainsFront, IsSure, Wrote, held_of, content}
+use Rattle.edt_base.specs.Outside.{FilesSeen, SinkSeen, Rose, Gains, GainsPrefix, IsSure, Wrote, held_of, content}
 use Rattle.edt_run.specs.declared.top.Status.{Status}
 use Rattle.edt_run.specs.declared.top.Status.TheVariants as status
 use Rattle.edt_run.specs.Forest.{Forest}
@@ -75,12 +75,12 @@ told None P f = tt
 told (Some held) P f = f held refl
 
 -- what the output gained, whatever text it was
-gained_front : (old new : SinkSeen) (text : List ℕ) (written : Bool) → Wrote old new text written → GainsFront old new text
+gained_front : (old new : SinkSeen) (text : List ℕ) (written : Bool) → Wrote old new text written → GainsPrefix old new text
 gained_front old new text true wrote = (text, [], sym (append-nil text), wrote.taken)
 gained_front old new text false wrote = wrote.taken.1
 
 -- no text is a front of every text
-front_of_any : (old new : SinkSeen) (text other : List ℕ) → text ≡ [] → GainsFront old new text → GainsFront old new other
+front_of_any : (old new : SinkSeen) (text other : List ℕ) → text ≡ [] → GainsPrefix old new text → GainsPrefix old new other
 front_of_any old new text other none gained =
     let nil : gained.0 ≡ [] = append_nil-front gained.0 gained.1 (sym gained.2 ∙ none) in
     ([], other, refl, subst (λ t. Gains old new t) nil gained.3)
@@ -90,7 +90,7 @@ front_of_any old new text other none gained =
     append_nil-front (x ∷ xs) ys e = cc
 
 -- a text that wasn't there was gained whole
-gained_nothing : (old new : SinkSeen) (text : List ℕ) → text ≡ [] → GainsFront old new text → Gains old new []
+gained_nothing : (old new : SinkSeen) (text : List ℕ) → text ≡ [] → GainsPrefix old new text → Gains old new []
 gained_nothing old new text none gained =
     let front = front_of_any old new text [] none gained in
     subst (λ t. Gains old new t) (nil_of front.0 front.1 (sym front.2)) front.3
@@ -118,7 +118,7 @@ steps_of : (r : Run) (ran : Ran r) → Steps r ran.wanted ran.text ran.written r
 steps_of r ran = record { files = ran.files; cause = ran.cause; output = ran.output; note = ran.note; status = ran.status }
 
 -- the output gained a front of the text that was wanted
-out_front : (r : Run) (wanted : Status) (text : List ℕ) (written noted : Bool) → Steps r wanted text written noted → GainsFront r.out_old r.out_new text
+out_front : (r : Run) (wanted : Status) (text : List ℕ) (written noted : Bool) → Steps r wanted text written noted → GainsPrefix r.out_old r.out_new text
 out_front r wanted text written noted steps = gained_front r.out_old r.out_new text written steps.output
 
 -- what was wanted against the answer: the same, or nothing was to be written
@@ -138,8 +138,8 @@ against r wanted text written noted steps held tells answer other is =
 
 -- the output gained a front of the answer's text
 front_either : (r : Run) (wanted : Status) (text : List ℕ) (answer : Status) (other : List ℕ)
-    → GainsFront r.out_old r.out_new text → IsAgainst r wanted text answer other → GainsFront r.out_old r.out_new other
-front_either r wanted text answer other gained (inl same) = subst (λ t. GainsFront r.out_old r.out_new t) same.1 gained
+    → GainsPrefix r.out_old r.out_new text → IsAgainst r wanted text answer other → GainsPrefix r.out_old r.out_new other
+front_either r wanted text answer other gained (inl same) = subst (λ t. GainsPrefix r.out_old r.out_new t) same.1 gained
 front_either r wanted text answer other gained (inr failed) = front_of_any r.out_old r.out_new text other failed.0 gained
 
 -- an output with sure room for the answer's text didn't fail

@@ -8,7 +8,7 @@ use Rattle.edt_base.specs.declared.fault.Place.{Place}
 use Rattle.edt_base.specs.declared.fault.Rule.{Rule}
 use Rattle.edt_base.specs.declared.outside.Call.TheVariants as call
 use Rattle.edt_base.specs.FaultText.{fault_text}
-use Rattle.edt_base.specs.Outside.{FilesSeen, SinkSeen, Rose, Gains, GainsFront, IsSure, Wrote, held_of, content}
+use Rattle.edt_base.specs.Outside.{FilesSeen, SinkSeen, Rose, Gains, GainsPrefix, IsSure, Wrote, held_of, content}
 use Rattle.edt_run.specs.declared.top.Status.{Status}
 use Rattle.edt_run.specs.declared.top.Status.TheVariants as status
 use Rattle.edt_run.specs.Forest.{Forest}
@@ -143,7 +143,7 @@ pub record KeepsPromises (r : Run) : Type 0 where
       → NothingRose r → (r.status ≡ answer) ⊎ (r.status ≡ status.Memory))
   -- whatever the status: the output gained a front of the answer's text
   pub front : IfSome (held_of r.files_old) (λ held. (answer : Status) (text : List ℕ) → IsAnswer held r.words answer text
-      → GainsFront r.out_old r.out_new text)
+      → GainsPrefix r.out_old r.out_new text)
   -- an output that is sure of room for the answer's text doesn't fail
   pub sure : IfSome (held_of r.files_old) (λ held. (answer : Status) (text : List ℕ) → IsAnswer held r.words answer text
       → length text ≤ r.out_old.room → IsSure r.out_old r.out_new (length text))

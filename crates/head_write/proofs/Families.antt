@@ -6,7 +6,8 @@ use Rattle.std.proofs.lemmas.List.Elements.{All-nil, All-cons}
 use Rattle.std.proofs.lemmas.List.Sorted.{IsPermutation-refl}
 use Rattle.std.proofs.lemmas.Option.{same_Some}
 use Rattle.std.proofs.lemmas.Slice.Eq.{bytes_eq-Decides}
-use Rattle.edt_base.specs.BoundData.{IsBound, IsInst}
+use Rattle.edt_base.specs.BoundData.{IsBound}
+use Rattle.edt_base.specs.Instances.{IsInst}
 use Rattle.edt_base.specs.BoundNodeData.{BoundNodeData, IsBoundNode}
 use Rattle.edt_base.specs.EntryData.{EntryData}
 use Rattle.edt_base.specs.InstData.{InstData}

@@ -6,6 +6,7 @@ use Rattle.std.proofs.Common.{◌≤◌, take, slice_index_or}
 use Rattle.std.proofs.lemmas.List.{take_all}
 use Rattle.std.proofs.lemmas.Option.{same_Some}
 use Rattle.edt_base.specs.NodeData.{NodeData, prop_of, has_label, phandle_of, one_cell}
+use Rattle.edt_base.specs.SourceNames.{is_node_name}
 use Rattle.edt_base.specs.TreeData.{IsWellFormed, IsAtOrAbove, itself, IsKindOf, children_of, child_path}
 use Rattle.edt_base.specs.declared.node.Kind.{Kind}
 use Rattle.edt_base.specs.declared.node.Kind.TheVariants as kind
@@ -62,6 +63,8 @@ three_well_formed top middle low t m l = record {
       (λ e h. same_place (a ∷ b ∷ c ∷ []) 1 p i (same_Some 1 p h) (omega arith))
       (i + 1) n at refl up;
   children = cases3 (λ i n. n.children ≡ children_of (a ∷ b ∷ c ∷ []) i) a b c refl refl refl;
+  root_name = cases3 (λ i n. n.parent ≡ None → n.name ≡ codes "/") a b c (λ h. refl) (λ h. cc) (λ h. cc);
+  names = λ i p n. cases3 (λ i n. n.parent ≡ Some p → is_node_name n.name ≡ true) a b c (λ h. cc) (λ h. refl) (λ h. refl) i n;
   root_path = cases3 (λ i n. n.parent ≡ None → n.path ≡ codes "/") a b c (λ h. refl) (λ h. cc) (λ h. cc);
   child_paths = λ i p n over at up found. cases3 (λ i n. n.parent ≡ Some p → n.path ≡ child_path over n.name) a b c
       (λ h. cc)

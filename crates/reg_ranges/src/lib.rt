@@ -6,7 +6,6 @@ mod cells;
 mod laws;
 mod nodes;
 mod registers;
-mod stop;
 #[cfg(test)]
 mod tests;
 #[cfg(test)]

@@ -3,7 +3,7 @@
 
 ghost use Rattle.std.specs.Prelude.{◌≡◌, ◌<◌, ◌≤◌, ◌∷◌, [], ℕ, List, All, IfOk, codes, false, length};
 ghost use Rattle.std.specs.Str.{bytes_eq};
-ghost use Rattle.edt_base.specs.BoundData.{IsInst};
+ghost use Rattle.edt_base.specs.Instances.{IsInst};
 ghost use Rattle.head_write.specs.Family.{AreFamily, child_node, parent_node, unbound_node};
 
 use super::roots::{bare, text, texts};

@@ -1,7 +1,7 @@
 //! Bound trees made by hand in which definitions share a name.
 
 ghost use Rattle.std.specs.Prelude.{◌<◌, All, IfOk};
-ghost use Rattle.edt_base.specs.BoundData.{IsInst};
+ghost use Rattle.edt_base.specs.Instances.{IsInst};
 ghost use Rattle.edt_base.specs.PropData.{IsTyped};
 
 use super::family::{self, instance};

@@ -1,7 +1,7 @@
 //! Bound trees of a root alone, made by hand: every node that they name is the root.
 
 ghost use Rattle.std.specs.Prelude.{◌≡◌, ◌<◌, ℕ, List, [], None, All, IfOk, IfSome, IsTrue, length};
-ghost use Rattle.edt_base.specs.BoundData.{IsInst};
+ghost use Rattle.edt_base.specs.Instances.{IsInst};
 ghost use Rattle.edt_base.specs.EntryData.{EntryData};
 ghost use Rattle.edt_base.specs.PropData.{IsTyped};
 ghost use Rattle.edt_base.specs.ValData.{IsOfType, HasNodesBelow, is_tested, tested_count, val_data};

@@ -1,7 +1,7 @@
 //! A root with something of every kind, and its whole header.
 
 ghost use Rattle.std.specs.Prelude.{◌<◌, All, IfOk};
-ghost use Rattle.edt_base.specs.BoundData.{IsInst};
+ghost use Rattle.edt_base.specs.Instances.{IsInst};
 ghost use Rattle.edt_base.specs.EntryData.{EntryData};
 ghost use Rattle.edt_base.specs.PropData.{IsTyped};
 
