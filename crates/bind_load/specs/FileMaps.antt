@@ -57,7 +57,10 @@ include_maps _ = []
 
 -- the maps of a level
 abbrev pub level_maps : Pairs → List MapData
-level_maps ps = record { keys = keys.Level; pairs = ps } ∷ (flat_map settings_map (properties_of ps) ++ flat_map include_maps (includes_of ps))
+level_maps ps = record {
+  keys = keys.Level;
+  pairs = ps;
+} ∷ (flat_map settings_map (properties_of ps) ++ flat_map include_maps (includes_of ps))
 
 -- all maps of a file
 abbrev pub file_maps : Value → List MapData

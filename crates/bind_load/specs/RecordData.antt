@@ -4,7 +4,8 @@ use Rattle.std.specs.Prelude.{ℕ, Bool, List, Option}
 use Rattle.edt_base.specs.YamlData.{Value}
 use Rattle.edt_base.specs.declared.bound.PropType.{PropType}
 
--- what one level of a filter lets through: the properties of the first list, where there is one, but for those of the second
+-- what one level of a filter lets through: the properties of the first list, where there is one, but for those of the
+-- second
 pub record FilterLevel : Type 0 where
   pub allow : Option (List (List ℕ))
   pub block : Option (List (List ℕ))

@@ -63,7 +63,10 @@ no_filter = record { allow = None; block = None }
 -- an include: a file's name, or a map with the name and a filter
 abbrev pub include_in : Value → List IncludeData
 include_in (a_text t) = record { name = t; filter = no_filter ∷ [] } ∷ []
-include_in (a_map ps) = option_map_or (λ name. record { name = name; filter = filter_level ps ∷ map filter_level (levels_below ps) } ∷ []) (read_at (codes "name") text_in ps) []
+include_in (a_map ps) = option_map_or (λ name. record {
+  name = name;
+  filter = filter_level ps ∷ map filter_level (levels_below ps);
+} ∷ []) (read_at (codes "name") text_in ps) []
 include_in _ = []
 
 abbrev pub spec_in : Pairs → SpecData

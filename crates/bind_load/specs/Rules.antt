@@ -32,7 +32,8 @@ has_wrong_form m = lacks_name m || list_any (has_other_form m.keys) (pair_list m
 
 -- B10: one filter has both lists
 abbrev pub has_both_lists : MapData → Bool
-has_both_lists m = is_filter m.keys && is_some (entry_of (codes "property-allowlist") m.pairs) && is_some (entry_of (codes "property-blocklist") m.pairs)
+has_both_lists m = is_filter m.keys && is_some (entry_of (codes "property-allowlist") m.pairs)
+    && is_some (entry_of (codes "property-blocklist") m.pairs)
   where
     is_filter : Keys → Bool
     is_filter keys.Include = true
@@ -41,7 +42,8 @@ has_both_lists m = is_filter m.keys && is_some (entry_of (codes "property-allowl
 
 -- B13: what `<space>-cells` holds is no list of texts
 abbrev pub has_bad_cells : MapData → Bool
-has_bad_cells m = is_level m.keys && list_any (λ (e : List ℕ × Value). is_some (space_of e.0) && not (are_texts e.1)) (pair_list m.pairs)
+has_bad_cells m = is_level m.keys && list_any (λ (e : List ℕ × Value). is_some (space_of e.0) && not (are_texts e.1))
+    (pair_list m.pairs)
   where
     is_level : Keys → Bool
     is_level keys.Level = true

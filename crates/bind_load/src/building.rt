@@ -4,10 +4,12 @@ ghost use Rattle.std.specs.Prelude.{◌≡◌, IfOk, [], ◌∷◌, map};
 ghost use Rattle.std.specs.Option.{option_map, option_map_or};
 ghost use Rattle.std.specs.List.{flat_map};
 ghost use Rattle.edt_base.specs.YamlData.{value_of, a_map, pair_list, item_list};
-ghost use Rattle.bind_load.specs.Seen.{pairs_of, items_of, level_data, levels_from};
+ghost use Rattle.bind_load.specs.Inner.Seen.{pairs_of, items_of, level_data, levels_from};
 ghost use Rattle.bind_load.specs.FileMaps.{levels, levels_below, properties_of, includes_of};
-ghost use Rattle.bind_load.specs.RecordOf.{record_in, level_in, include_in, prop_in, spec_in, cells_in, filter_level, no_filter};
-ghost use Rattle.bind_load.specs.RecordSeen.{record_of, filter_of, include_of, spec_of, prop_of, rest_of};
+ghost use Rattle.bind_load.specs.RecordOf.{record_in, level_in, include_in, prop_in, spec_in};
+ghost use Rattle.bind_load.specs.RecordOf.{cells_in, filter_level, no_filter};
+ghost use Rattle.bind_load.specs.RecordSeen.{record_of, filter_of, include_of, spec_of, prop_of};
+ghost use Rattle.bind_load.specs.RecordSeen.{rest_of};
 
 use crate::form::space_of;
 use crate::maps::{below, includes, levels, look, properties, top};
@@ -19,7 +21,8 @@ use crate::record::{BindingRec, Filter, Include, PropSpec};
 use edt_base::{Text, Yaml};
 use std::alloc::{AllocError, Global};
 
-/// The record of a file's value; None exactly where that is no map. The one error is want of memory.
+/// The record of a file's value; None exactly where that is no map. The one error is want of
+/// memory.
 pub(crate) fn build(alloc: Global, y: &Yaml) -> Result<Option<BindingRec>, AllocError>
     ensures { IfOk result (λ rec. rest_of (option_map record_of rec) ≡ record_in (value_of y.now)) }
 {
@@ -37,7 +40,8 @@ fn level(
     pairs: &[(Text, Yaml)],
     below: Option<BindingRec>,
 ) -> Result<BindingRec, AllocError>
-    ensures { IfOk result (λ rec. record_of rec ≡ level_in (pairs_of pairs.now) ∷ rest_of (option_map record_of below)) }
+    ensures { IfOk result (λ rec. record_of rec ≡ level_in (pairs_of pairs.now)
+        ∷ rest_of (option_map record_of below)) }
 {
     let child = match below {
         Some(rec) => Some(Box::new(alloc, rec)?),
@@ -57,7 +61,8 @@ fn level(
 
 // The names of each space's cells.
 fn cells(alloc: Global, pairs: &[(Text, Yaml)]) -> Result<Vec<(Text, Vec<Text>)>, AllocError>
-    ensures { IfOk result (λ cells. map (λ e. (e.0, e.1.items)) cells.items ≡ flat_map cells_in (pair_list (pairs_of pairs.now))) }
+    ensures { IfOk result (λ cells. map (λ e. (e.0, e.1.items)) cells.items
+        ≡ flat_map cells_in (pair_list (pairs_of pairs.now))) }
 {
     let mut cells = Vec::new(alloc);
     for (key, value) in pairs {
@@ -73,7 +78,8 @@ fn cells(alloc: Global, pairs: &[(Text, Yaml)]) -> Result<Vec<(Text, Vec<Text>)>
 
 // The properties with their settings.
 fn props(alloc: Global, properties: &[(Text, Yaml)]) -> Result<Vec<(Text, PropSpec)>, AllocError>
-    ensures { IfOk result (λ props. map prop_of props.items ≡ flat_map prop_in (pair_list (pairs_of properties.now))) }
+    ensures { IfOk result (λ props. map prop_of props.items
+        ≡ flat_map prop_in (pair_list (pairs_of properties.now))) }
 {
     let mut props = Vec::with_capacity(alloc, properties.len())?;
     for (name, settings) in properties {
@@ -86,7 +92,8 @@ fn props(alloc: Global, properties: &[(Text, Yaml)]) -> Result<Vec<(Text, PropSp
 
 // A property with its settings.
 fn prop(alloc: Global, name: &Text, settings: &Yaml) -> Result<Option<(Text, PropSpec)>, AllocError>
-    ensures { IfOk result (λ prop. option_map_or (λ e. prop_of e ∷ []) prop [] ≡ prop_in (name.now, value_of settings.now)) }
+    ensures { IfOk result (λ prop. option_map_or (λ e. prop_of e ∷ []) prop []
+        ≡ prop_in (name.now, value_of settings.now)) }
 {
     match settings {
         Yaml::Map(settings) => Ok(Some((name.copy(alloc)?, spec(alloc, settings)?))),
@@ -112,7 +119,8 @@ fn spec(alloc: Global, settings: &[(Text, Yaml)]) -> Result<PropSpec, AllocError
 
 // What a level includes.
 fn included(alloc: Global, values: &[Yaml]) -> Result<Vec<Include>, AllocError>
-    ensures { IfOk result (λ included. map include_of included.items ≡ flat_map include_in (item_list (items_of values.now))) }
+    ensures { IfOk result (λ included. map include_of included.items
+        ≡ flat_map include_in (item_list (items_of values.now))) }
 {
     let mut included = Vec::with_capacity(alloc, values.len())?;
     for value in values {
@@ -125,7 +133,8 @@ fn included(alloc: Global, values: &[Yaml]) -> Result<Vec<Include>, AllocError>
 
 // An include: a file's name, or a map with the name and a filter.
 fn include(alloc: Global, y: &Yaml) -> Result<Option<Include>, AllocError>
-    ensures { IfOk result (λ include. option_map_or (λ i. include_of i ∷ []) include [] ≡ include_in (value_of y.now)) }
+    ensures { IfOk result (λ include. option_map_or (λ i. include_of i ∷ []) include []
+        ≡ include_in (value_of y.now)) }
 {
     match y {
         Yaml::Str(name) => Ok(Some(Include {
@@ -143,7 +152,8 @@ fn include(alloc: Global, y: &Yaml) -> Result<Option<Include>, AllocError>
 
 // An include by a map, with the name and a filter.
 fn include_map(alloc: Global, pairs: &[(Text, Yaml)]) -> Result<Option<Include>, AllocError>
-    ensures { IfOk result (λ include. option_map_or (λ i. include_of i ∷ []) include [] ≡ include_in (a_map (pairs_of pairs.now))) }
+    ensures { IfOk result (λ include. option_map_or (λ i. include_of i ∷ []) include []
+        ≡ include_in (a_map (pairs_of pairs.now))) }
 {
     match text_at(alloc, pairs, "name")? {
         Some(name) => Ok(Some(Include {
@@ -156,7 +166,8 @@ fn include_map(alloc: Global, pairs: &[(Text, Yaml)]) -> Result<Option<Include>,
 
 // The filter of an include's map.
 fn filter(alloc: Global, pairs: &[(Text, Yaml)]) -> Result<Filter, AllocError>
-    ensures { IfOk result (λ filter. filter_of filter ≡ filter_level (pairs_of pairs.now) ∷ map filter_level (levels_below (pairs_of pairs.now))) }
+    ensures { IfOk result (λ filter. filter_of filter ≡ filter_level (pairs_of pairs.now)
+        ∷ map filter_level (levels_below (pairs_of pairs.now))) }
 {
     let mut left = levels(alloc, below(pairs))?;
     let mut filter = None;
@@ -172,7 +183,8 @@ fn level_filter(
     pairs: &[(Text, Yaml)],
     below: Option<Filter>,
 ) -> Result<Filter, AllocError>
-    ensures { IfOk result (λ filter. filter_of filter ≡ filter_level (pairs_of pairs.now) ∷ rest_of (option_map filter_of below)) }
+    ensures { IfOk result (λ filter. filter_of filter ≡ filter_level (pairs_of pairs.now)
+        ∷ rest_of (option_map filter_of below)) }
 {
     let child = match below {
         Some(filter) => Some(Box::new(alloc, filter)?),

@@ -4,7 +4,9 @@ ghost use Rattle.std.specs.Prelude.{◌≡◌, is_none};
 ghost use Rattle.std.specs.List.{list_any, list_all};
 ghost use Rattle.std.specs.Option.{option_map};
 ghost use Rattle.edt_base.specs.YamlData.{value_of, pair_list};
-ghost use Rattle.bind_load.specs.Forms.{has_form, is_description, is_text, is_truth, is_type, is_map, is_whole, is_whole_list, are_texts, is_text_or_texts, are_maps, are_includes, is_text_or_map};
+ghost use Rattle.bind_load.specs.Forms.{has_form, is_description, is_text, is_truth, is_type};
+ghost use Rattle.bind_load.specs.Forms.{is_map, is_whole, is_whole_list, are_texts};
+ghost use Rattle.bind_load.specs.Forms.{is_text_or_texts, are_maps, are_includes, is_text_or_map};
 
 use crate::form::{Form, type_named};
 use edt_base::{Text, Yaml};

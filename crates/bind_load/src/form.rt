@@ -3,7 +3,8 @@
 ghost use Rattle.std.specs.Prelude.{◌≡◌, is_some};
 ghost use Rattle.std.specs.Option.{option_map};
 ghost use Rattle.edt_base.specs.YamlData.{value_of};
-ghost use Rattle.bind_load.specs.Forms.{form_of, level_form, setting_form, filter_form, include_form, type_named, has_form, space_of};
+ghost use Rattle.bind_load.specs.Forms.{form_of, level_form, setting_form, filter_form};
+ghost use Rattle.bind_load.specs.Forms.{include_form, type_named, has_form, space_of};
 
 use edt_base::{PropType, Yaml};
 

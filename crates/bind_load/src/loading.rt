@@ -14,10 +14,11 @@ use edt_base::{End, Fault, Place, Rule, Text, Yaml};
 use std::alloc::{AllocError, Global};
 
 /// The record of a binding file's value, or the first rule that the file breaks by itself, at the
-/// file: B1 where the top is no map, B2 where a key is unknown, B4 where a key's value has the wrong
-/// form, B10 where one filter has both lists, B13 where `<space>-cells` holds no list of texts; each is
-/// tested over the whole file before the next (Zephyr 3.7, "Devicetree bindings syntax"). Of a key that
-/// stands twice in a map the first pair counts. The other error is want of memory.
+/// file: B1 where the top is no map, B2 where a key is unknown, B4 where a key's value has the
+/// wrong form, B10 where one filter has both lists, B13 where `<space>-cells` holds no list of
+/// texts; each is tested over the whole file before the next (Zephyr 3.7, "Devicetree bindings
+/// syntax"). Of a key that stands twice in a map the first pair counts. The other error is want of
+/// memory.
 pub fn load(alloc: Global, file: &Text, y: &Yaml) -> Result<BindingRec, End>
     ensures { IsLoaded file.now (value_of y.now) result }
 {

@@ -4,8 +4,10 @@ ghost use Rattle.std.specs.Prelude.{◌≡◌, ◌++◌, IfOk, OnOk, map, [], �
 ghost use Rattle.std.specs.Option.{option_map};
 ghost use Rattle.std.specs.List.{flat_map};
 ghost use Rattle.edt_base.specs.YamlData.{value_of, a_map, entry_of, pair_list, item_list};
-ghost use Rattle.bind_load.specs.Seen.{pairs_of, items_of, map_data, level_data, levels_from};
-ghost use Rattle.bind_load.specs.FileMaps.{levels, levels_below, level_maps, file_maps, settings_map, include_maps, filter_map, properties_of, includes_of, items_in};
+ghost use Rattle.bind_load.specs.Inner.Seen.{pairs_of, items_of, map_data, level_data, levels_from};
+ghost use Rattle.bind_load.specs.FileMaps.{levels, levels_below, level_maps, file_maps};
+ghost use Rattle.bind_load.specs.FileMaps.{settings_map, include_maps, filter_map, properties_of};
+ghost use Rattle.bind_load.specs.FileMaps.{includes_of, items_in};
 
 use crate::form::Keys;
 use edt_base::{Text, Yaml};
@@ -112,7 +114,10 @@ pub(crate) fn file_maps<'a>(alloc: Global, y: &'a Yaml) -> Result<Vec<Map<'a>>, 
 
 // One map.
 fn add<'a>(maps: &mut Vec<Map<'a>>, keys: Keys, pairs: &'a [(Text, Yaml)]) -> Result<(), AllocError>
-    ensures { OnOk result (map map_data maps.new.items ≡ map map_data maps.old.items ++ record { keys = keys; pairs = pairs_of pairs.now } ∷ []) }
+    ensures { OnOk result (map map_data maps.new.items ≡ map map_data maps.old.items ++ record {
+      keys = keys;
+      pairs = pairs_of pairs.now;
+    } ∷ []) }
 {
     maps.push(Map { keys, pairs })?;
     Ok(())
@@ -124,7 +129,8 @@ fn add_level<'a>(
     maps: &mut Vec<Map<'a>>,
     pairs: &'a [(Text, Yaml)],
 ) -> Result<(), AllocError>
-    ensures { OnOk result (map map_data maps.new.items ≡ map map_data maps.old.items ++ level_maps (pairs_of pairs.now)) }
+    ensures { OnOk result (map map_data maps.new.items ≡ map map_data maps.old.items
+        ++ level_maps (pairs_of pairs.now)) }
 {
     add(maps, Keys::Level, pairs)?;
     add_settings(maps, properties(pairs))?;
@@ -137,7 +143,8 @@ fn add_settings<'a>(
     maps: &mut Vec<Map<'a>>,
     properties: &'a [(Text, Yaml)],
 ) -> Result<(), AllocError>
-    ensures { OnOk result (map map_data maps.new.items ≡ map map_data maps.old.items ++ flat_map settings_map (pair_list (pairs_of properties.now))) }
+    ensures { OnOk result (map map_data maps.new.items ≡ map map_data maps.old.items
+        ++ flat_map settings_map (pair_list (pairs_of properties.now))) }
 {
     let keys = Keys::Settings;
     for (_, settings) in properties {
@@ -154,7 +161,8 @@ fn add_includes<'a>(
     maps: &mut Vec<Map<'a>>,
     includes: &'a [Yaml],
 ) -> Result<(), AllocError>
-    ensures { OnOk result (map map_data maps.new.items ≡ map map_data maps.old.items ++ flat_map include_maps (item_list (items_of includes.now))) }
+    ensures { OnOk result (map map_data maps.new.items ≡ map map_data maps.old.items
+        ++ flat_map include_maps (item_list (items_of includes.now))) }
 {
     for include in includes {
         add_include(alloc, maps, include)?;
@@ -168,7 +176,8 @@ fn add_include<'a>(
     maps: &mut Vec<Map<'a>>,
     include: &'a Yaml,
 ) -> Result<(), AllocError>
-    ensures { OnOk result (map map_data maps.new.items ≡ map map_data maps.old.items ++ include_maps (value_of include.now)) }
+    ensures { OnOk result (map map_data maps.new.items ≡ map map_data maps.old.items
+        ++ include_maps (value_of include.now)) }
 {
     match include {
         Yaml::Map(pairs) => add_include_map(alloc, maps, pairs),
@@ -182,7 +191,8 @@ fn add_include_map<'a>(
     maps: &mut Vec<Map<'a>>,
     pairs: &'a [(Text, Yaml)],
 ) -> Result<(), AllocError>
-    ensures { OnOk result (map map_data maps.new.items ≡ map map_data maps.old.items ++ include_maps (a_map (pairs_of pairs.now))) }
+    ensures { OnOk result (map map_data maps.new.items ≡ map map_data maps.old.items
+        ++ include_maps (a_map (pairs_of pairs.now))) }
 {
     let filters = levels(alloc, below(pairs))?;
     add(maps, Keys::Include, pairs)?;
@@ -195,7 +205,8 @@ fn add_filters<'a>(
     maps: &mut Vec<Map<'a>>,
     filters: &[&'a [(Text, Yaml)]],
 ) -> Result<(), AllocError>
-    ensures { OnOk result (map map_data maps.new.items ≡ map map_data maps.old.items ++ map filter_map (map level_data filters.now)) }
+    ensures { OnOk result (map map_data maps.new.items ≡ map map_data maps.old.items
+        ++ map filter_map (map level_data filters.now)) }
 {
     for pairs in filters {
         add(maps, Keys::Filter, pairs)?;

@@ -4,8 +4,9 @@ ghost use Rattle.std.specs.Prelude.{◌≡◌, ◌++◌, IfOk, OnOk, map};
 ghost use Rattle.std.specs.Option.{option_map};
 ghost use Rattle.std.specs.List.{flat_map};
 ghost use Rattle.edt_base.specs.YamlData.{value_of, entry_of, item_list};
-ghost use Rattle.bind_load.specs.Seen.{pairs_of, items_of};
-ghost use Rattle.bind_load.specs.RecordOf.{text_in, truth_in, type_in, description_in, texts_in, text_or_texts_in, list_in, one_text, read_at};
+ghost use Rattle.bind_load.specs.Inner.Seen.{pairs_of, items_of};
+ghost use Rattle.bind_load.specs.RecordOf.{text_in, truth_in, type_in, description_in, texts_in};
+ghost use Rattle.bind_load.specs.RecordOf.{text_or_texts_in, list_in, one_text, read_at};
 
 use crate::form::type_named;
 use crate::maps::look;
@@ -94,7 +95,8 @@ pub(crate) fn value_at(
     pairs: &[(Text, Yaml)],
     key: &str,
 ) -> Result<Option<Yaml>, AllocError>
-    ensures { IfOk result (λ value. option_map value_of value ≡ entry_of key.now (pairs_of pairs.now)) }
+    ensures { IfOk result (λ value. option_map value_of value
+        ≡ entry_of key.now (pairs_of pairs.now)) }
 {
     match look(pairs, key) {
         Some(value) => Ok(Some(copy(alloc, value)?)),
@@ -104,7 +106,8 @@ pub(crate) fn value_at(
 
 /// The texts of a list.
 pub(crate) fn texts(alloc: Global, items: &[Yaml]) -> Result<Vec<Text>, AllocError>
-    ensures { IfOk result (λ texts. texts.items ≡ flat_map one_text (item_list (items_of items.now))) }
+    ensures { IfOk result (λ texts. texts.items
+        ≡ flat_map one_text (item_list (items_of items.now))) }
 {
     let mut texts = Vec::with_capacity(alloc, items.len())?;
     for item in items {
@@ -121,7 +124,8 @@ pub(crate) fn texts_at(
     pairs: &[(Text, Yaml)],
     key: &str,
 ) -> Result<Option<Vec<Text>>, AllocError>
-    ensures { IfOk result (λ texts. option_map (λ v. v.items) texts ≡ read_at key.now texts_in (pairs_of pairs.now)) }
+    ensures { IfOk result (λ texts. option_map (λ v. v.items) texts
+        ≡ read_at key.now texts_in (pairs_of pairs.now)) }
 {
     match look(pairs, key) {
         Some(Yaml::List(items)) => Ok(Some(texts(alloc, items)?)),
@@ -135,7 +139,8 @@ pub(crate) fn text_or_texts_at(
     pairs: &[(Text, Yaml)],
     key: &str,
 ) -> Result<Option<Vec<Text>>, AllocError>
-    ensures { IfOk result (λ texts. option_map (λ v. v.items) texts ≡ read_at key.now text_or_texts_in (pairs_of pairs.now)) }
+    ensures { IfOk result (λ texts. option_map (λ v. v.items) texts
+        ≡ read_at key.now text_or_texts_in (pairs_of pairs.now)) }
 {
     match look(pairs, key) {
         Some(Yaml::List(items)) => Ok(Some(texts(alloc, items)?)),
@@ -150,7 +155,8 @@ pub(crate) fn list_at(
     pairs: &[(Text, Yaml)],
     key: &str,
 ) -> Result<Option<Vec<Yaml>>, AllocError>
-    ensures { IfOk result (λ list. option_map (λ v. map value_of v.items) list ≡ read_at key.now list_in (pairs_of pairs.now)) }
+    ensures { IfOk result (λ list. option_map (λ v. map value_of v.items) list
+        ≡ read_at key.now list_in (pairs_of pairs.now)) }
 {
     match look(pairs, key) {
         Some(Yaml::List(items)) => Ok(Some(copy_all(alloc, items)?)),

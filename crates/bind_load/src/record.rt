@@ -2,8 +2,8 @@
 
 use edt_base::{PropType, Text, Yaml};
 
-/// What one binding file says, level by level (Zephyr 3.7, "Devicetree bindings syntax"). In clauses
-/// it is plain data, `record_of` it: the list of its levels, from the top down.
+/// What one binding file says, level by level (Zephyr 3.7, "Devicetree bindings syntax"). In
+/// clauses it is plain data, `record_of` it: the list of its levels, from the top down.
 #[derive(Debug, Drop)]
 pub struct BindingRec {
     /// What the node is; empty where it is no text.

@@ -32,7 +32,7 @@ pub record IsFirstOpen (done : List Bool) (ids : List ℕ) (met : ℕ) : Type 0 
   pub before : All (λ q. is_done done q ≡ true) (take met ids)
   pub next : (q : ℕ) → slice_get ids met ≡ Some q → is_done done q ≡ false
 
--- an element behind others
+-- an element after others
 get_drop : {X : Type 0} (n k : ℕ) (xs : List X) → slice_get (drop n xs) k ≡ slice_get xs (n + k)
 get_drop zero k xs = ap (slice_get xs) (omega arith)
 get_drop (suc n) k [] = refl

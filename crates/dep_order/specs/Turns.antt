@@ -11,7 +11,8 @@ use Rattle.dep_order.specs.declared.turns.Waiter.{Waiter}
 abbrev pub lists : List (Vec ℕ Global) → List (List ℕ)
 lists vs = map (λ (v : Vec ℕ Global). v.items) vs
 
--- what stands at a time: the nodes that are placed, in order and as marks, those that wait for each node, and those that are ready, rising
+-- what stands at a time: the nodes that are placed, in order and as marks, those that wait for each node, and those
+-- that are ready, rising
 pub record TurnsData : Type 0 where
   pub order : List ℕ
   pub done : List Bool
@@ -56,7 +57,11 @@ settled needs t w = sent t w.id (met_from t.done (required needs w.id) w.met)
 
 -- the node is placed, and those that waited for it are taken out
 abbrev pub marked : TurnsData → ℕ → TurnsData
-marked t id = record t { order = t.order ++ id ∷ []; done = slice_set t.done id true; waiting = slice_set t.waiting id [] }
+marked t id = record t {
+  order = t.order ++ id ∷ [];
+  done = slice_set t.done id true;
+  waiting = slice_set t.waiting id [];
+}
 
 -- the nodes before the place where a node waits are placed
 pub record IsMet (needs : List (List ℕ)) (order : List ℕ) (w : Waiter) : Type 0 where

@@ -10,7 +10,7 @@ use std::alloc::{AllocError, AllocFailed};
 #[derive(Debug, Drop)]
 pub enum OrderEnd {
     /// Some nodes require one another in a circle. Names the first node in preorder that can't be
-    /// numbered, in the circle or behind it.
+    /// numbered, in the circle or after it.
     Cycle(NodeId),
     /// Memory was wanted; there may be an order.
     Memory(AllocError),

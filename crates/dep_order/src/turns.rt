@@ -1,9 +1,12 @@
 //! What stands while the nodes are placed one after another.
 
-ghost use Rattle.std.specs.Prelude.{◌≡◌, ◌<◌, ◌≤◌, ◌+◌, ◌++◌, ◌∷◌, ◌^◌, [], IfOk, IfErr, IfSome, OnOk, MatchBool, MatchOption, length, map, drop, slice_get, slice_index_or, slice_set, replicate, true, false, Some, None};
+ghost use Rattle.std.specs.Prelude.{◌≡◌, ◌<◌, ◌≤◌, ◌+◌, ◌++◌, ◌∷◌, ◌^◌, [], IfOk, IfErr, IfSome};
+ghost use Rattle.std.specs.Prelude.{OnOk, MatchBool, MatchOption, length, map, drop, slice_get};
+ghost use Rattle.std.specs.Prelude.{slice_index_or, slice_set, replicate, true, false, Some, None};
 ghost use Rattle.std.specs.List.{prefix_len, range_with_len};
 ghost use Rattle.dep_order.specs.Order.{required, AreWithin};
-ghost use Rattle.dep_order.specs.Turns.{lists, is_done, met_from, with_waiter, with_ready, settled, sent, marked, start, starters, is_true, IsUnderWay, IsMet};
+ghost use Rattle.dep_order.specs.Turns.{lists, is_done, met_from, with_waiter, with_ready, settled};
+ghost use Rattle.dep_order.specs.Turns.{sent, marked, start, starters, is_true, IsUnderWay, IsMet};
 ghost use Rattle.dep_order.specs.declared.ends.OrderEnd.TheVariants as ending;
 
 use crate::OrderEnd;
@@ -79,7 +82,12 @@ impl Model for Turns {
 
     ghost Value = { TurnsData };
 
-    ghost view = { λ t. record { order = t.order.items; done = t.done.items; waiting = t.waiting.items; ready = t.ready } };
+    ghost view = { λ t. record {
+      order = t.order.items;
+      done = t.done.items;
+      waiting = t.waiting.items;
+      ready = t.ready;
+    } };
 }
 
 impl Turns {
@@ -160,7 +168,8 @@ impl Turns {
         requires within { AreWithin (lists needs.now) }
         requires under_way { IsUnderWay (lists needs.now) self.old [] }
         ensures under_way { OnOk result (IsUnderWay (lists needs.now) self.new []) }
-        ensures more { IfOk result (λ more. MatchBool more (length self.new.order ≡ length self.old.order + 1) (self.new.ready ≡ [])) }
+        ensures more { IfOk result (λ more. MatchBool more
+            (length self.new.order ≡ length self.old.order + 1) (self.new.ready ≡ [])) }
     {
         let Some(id) = self.ready.take_first() else {
             return Ok(false);
@@ -173,8 +182,10 @@ impl Turns {
     /// The order, or the first node that is left.
     pub(crate) fn finish(self) -> Result<Vec<NodeId>, OrderEnd>
         requires few { length self.done < 2 ^ 32 }
-        ensures order { IfOk result (λ v. (v.items ≡ self.order) × (prefix_len is_true self.done ≡ length self.done)) }
-        ensures left { IfErr result (λ end. (end ≡ ending.Cycle (prefix_len is_true self.done)) × (prefix_len is_true self.done < length self.done)) }
+        ensures order { IfOk result (λ v. (v.items ≡ self.order)
+            × (prefix_len is_true self.done ≡ length self.done)) }
+        ensures left { IfErr result (λ end. (end ≡ ending.Cycle (prefix_len is_true self.done))
+            × (prefix_len is_true self.done < length self.done)) }
     {
         let placed = true_front(self.done.as_slice());
         if placed < self.done.len() {

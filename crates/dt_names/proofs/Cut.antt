@@ -2,7 +2,7 @@
 use Rattle.std.proofs.Common.{◌≡◌, ℕ, Bool, true, false, not, List, [], ◌∷◌, ◌++◌, ◌&&◌, ◌||◌, refl, sym, ap, ◌∙◌, arith, inl, inr, codes, take, drop, append_assoc, nat_eq, if◌then◌else◌}
 use Rattle.std.specs.Str.{bytes_eq}
 use Rattle.std.proofs.lemmas.Bool.{cases_Bool, and_parts, and_from, not-true}
-use Rattle.edt_base.specs.Marks.{form_of}
+use Rattle.edt_base.specs.Forms.{form_of}
 use Rattle.dt_names.specs.Facts.{name_first, name_pieces, names_pieces, id_pieces}
 use Rattle.dt_names.specs.Keys.{NameTexts, behind_prop, is_of_prop}
 use Rattle.dt_names.specs.Names.{NamePart, marker, word, behind_marker, name_parts}

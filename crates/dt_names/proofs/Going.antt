@@ -5,14 +5,14 @@ use Rattle.std.specs.List.{flat_map}
 use Rattle.std.specs.Option.{option_map_or}
 use Rattle.std.proofs.lemmas.Bool.{cases_Bool}
 use Rattle.edt_base.specs.BoundData.{BoundData}
-use Rattle.edt_base.specs.BoundNodeData.{BoundNodeData}
+use Rattle.edt_base.specs.BoundNodeData.{BoundNodeData, buses_on}
 use Rattle.edt_base.specs.EntryData.{EntryData}
 use Rattle.edt_base.specs.InstData.{InstData}
-use Rattle.edt_base.specs.Marks.{ords_at}
+use Rattle.edt_base.specs.Ords.{ords_at}
 use Rattle.edt_base.specs.NodeData.{NodeData}
 use Rattle.edt_base.specs.PropData.{PropData}
 use Rattle.edt_base.specs.declared.bound.Reg.{Reg}
-use Rattle.dt_names.specs.Facts.{FactData, each, there, id_at, plain, path_facts, child_facts, order_facts, marked, buses_on, match_facts, reg_lines, reg_facts, range_facts, cell_facts, irq_lines, irq_facts, entry_facts, of_prop, choice_lines, at_index, item_rows, item_facts, pha_lines, pha_facts, yes, Element, an_item, a_node, an_entry, node_lines, elem_lines, elem_choices, elements, counted, value_body, choice_of, child_place, count_facts, shown_facts, prop_facts, is_shown, link, label_facts, chosen_facts, place_fact, okay_facts, inst_facts, tree_facts, titled}
+use Rattle.dt_names.specs.Facts.{FactData, each, there, id_at, plain, path_facts, child_facts, order_facts, marked, match_facts, reg_lines, reg_facts, range_facts, cell_facts, irq_lines, irq_facts, entry_facts, of_prop, choice_lines, at_index, item_rows, item_facts, pha_lines, pha_facts, yes, Element, an_item, a_node, an_entry, node_lines, elem_lines, elem_choices, elements, counted, value_body, choice_of, child_place, count_facts, shown_facts, prop_facts, is_shown, link, label_facts, chosen_facts, place_fact, okay_facts, inst_facts, tree_facts, titled}
 use Rattle.dt_names.specs.Keys.{GoOn, GoOnFrom, behind_prop, texts_of}
 use Rattle.dt_names.specs.Pieces.{PieceData, lit, form, num, spells}
 use Rattle.dt_names.specs.Sections.{head_facts, head_section, tree_section}

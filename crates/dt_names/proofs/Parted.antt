@@ -3,7 +3,7 @@ use Rattle.std.proofs.Common.{◌≡◌, ℕ, List, ◌++◌, ap, append_assoc}
 use Rattle.std.specs.List.{flat_map}
 use Rattle.edt_base.specs.BoundData.{BoundData}
 use Rattle.edt_base.specs.BoundNodeData.{BoundNodeData}
-use Rattle.edt_base.specs.Marks.{ords_at}
+use Rattle.edt_base.specs.Ords.{ords_at}
 use Rattle.edt_base.specs.NodeData.{NodeData}
 use Rattle.dt_names.specs.Facts.{FactData, path_facts, child_facts, order_facts, match_facts, entry_facts, prop_facts, node_facts, titled}
 use Rattle.dt_names.specs.Sections.{head_facts}

@@ -1,7 +1,7 @@
 -- Bodies that are spelled the same without being looked at.
 use Rattle.std.proofs.Common.{◌≡◌, ℕ, List, [], ◌∷◌, ◌++◌, refl, sym, ap, ◌∙◌, codes, map}
 use Rattle.std.specs.List.{flat_map}
-use Rattle.edt_base.specs.Marks.{form_of}
+use Rattle.edt_base.specs.Forms.{form_of}
 use Rattle.dt_names.specs.Clash.{AreSame}
 use Rattle.dt_names.specs.Facts.{id_pieces, elem_visit, visit, visits, visit_end, between}
 use Rattle.dt_names.specs.Pieces.{PieceData, lit, form, num, spell, spells}

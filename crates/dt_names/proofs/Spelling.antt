@@ -6,7 +6,7 @@ use Rattle.std.specs.Fmt.{digits_onto, digit_glyph, digits}
 use Rattle.std.specs.Str.{bytes_eq}
 use Rattle.std.proofs.lemmas.Bool.{cases_Bool, and_parts, or_cases, not-true}
 use Rattle.std.proofs.lemmas.List.{append-nil}
-use Rattle.edt_base.specs.Marks.{form_of, form_char, form_byte}
+use Rattle.edt_base.specs.Forms.{form_of, form_char, form_byte}
 use Rattle.dt_names.specs.Names.{NamePart, marker, word, behind_marker, name_parts}
 use Rattle.dt_names.specs.Pieces.{PieceData, lit, form, str, num, spell, spells}
 

@@ -1,7 +1,7 @@
 -- What the walk over the sections leaves at each step.
 use Rattle.std.proofs.Common.{◌≡◌, ℕ, ◌+◌, Bool, true, List, [], ◌∷◌, ◌++◌, Option, Some, None, refl, sym, ap, ◌∙◌, append_assoc, map, drop, if◌then◌else◌}
 use Rattle.edt_base.specs.BoundData.{BoundData}
-use Rattle.edt_base.specs.IndexData.{path_at}
+use Rattle.edt_base.specs.Nodes.{path_at}
 use Rattle.edt_base.specs.NodeData.{NodeData}
 use Rattle.edt_base.specs.PropData.{PropData}
 use Rattle.dt_names.specs.Facts.{FactData, each, id_at, prop_facts}

@@ -10,12 +10,13 @@ use Rattle.edt_base.specs.BoundData.{BoundData}
 use Rattle.edt_base.specs.BoundNodeData.{BoundNodeData}
 use Rattle.edt_base.specs.EntryData.{EntryData}
 use Rattle.edt_base.specs.InstData.{InstData}
-use Rattle.edt_base.specs.Marks.{OrdsData, ords_at}
+use Rattle.edt_base.specs.Ords.{OrdsData, ords_at}
 use Rattle.edt_base.specs.NodeData.{NodeData}
 use Rattle.edt_base.specs.PropData.{PropData}
 use Rattle.edt_base.specs.declared.bound.Range.{Range}
 use Rattle.edt_base.specs.declared.bound.Reg.{Reg}
-use Rattle.dt_names.specs.Facts.{FactData, each, there, id_at, plain, walks, path_facts, child_rows, child_facts, order_facts, match_facts, reg_lines, reg_facts, range_facts, cell_facts, irq_lines, irq_facts, entry_facts, of_prop, choice_lines, at_index, item_rows, item_facts, node_lines, pha_lines, pha_facts, Element, an_item, a_node, an_entry, elem_lines, elem_choices, elements, counted, value_body, choice_of, elem_visit, yes, okay_of, count_facts, shown_facts, prop_facts, is_shown, node_facts, link, label_facts, chosen_facts, place_fact, okay_facts, inst_facts, helper_facts, tree_facts, titled, titled_node, facts, full_name}
+use Rattle.dt_names.specs.Facts.{FactData, each, there, id_at, plain, walks, path_facts, child_rows, child_facts, order_facts, match_facts, reg_lines, reg_facts, range_facts, cell_facts, irq_lines, irq_facts, entry_facts, of_prop, choice_lines, at_index, item_rows, item_facts, node_lines, pha_lines, pha_facts, Element, an_item, a_node, an_entry, elem_lines, elem_choices, elements, counted, value_body, choice_of, elem_visit, yes, count_facts, shown_facts, prop_facts, is_shown, node_facts, link, label_facts, chosen_facts, place_fact, okay_facts, inst_facts, helper_facts, tree_facts, titled, titled_node, facts, full_name}
+use Rattle.edt_base.specs.Nodes.{okay_of}
 use Rattle.dt_names.specs.Names.{name_parts, NamesAreTold}
 use Rattle.dt_names.specs.Pieces.{PieceData, lit, form, num}
 use Rattle.dt_names.proofs.Cut.{IsCut, is_own, is_paired, follows_id, cut_node, cut_tree}

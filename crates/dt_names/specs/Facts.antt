@@ -4,11 +4,11 @@ use Rattle.std.specs.List.{flat_map, filter, range_with_len, ends_with, starts_w
 use Rattle.std.specs.Option.{option_map, option_map_or}
 use Rattle.std.specs.Str.{bytes_eq}
 use Rattle.edt_base.specs.BoundData.{BoundData}
-use Rattle.edt_base.specs.BoundNodeData.{BoundNodeData}
+use Rattle.edt_base.specs.BoundNodeData.{BoundNodeData, buses_on}
 use Rattle.edt_base.specs.EntryData.{EntryData}
-use Rattle.edt_base.specs.IndexData.{path_at}
+use Rattle.edt_base.specs.Nodes.{path_at, children_at, okay_of}
 use Rattle.edt_base.specs.InstData.{InstData}
-use Rattle.edt_base.specs.Marks.{OrdsData, ords_at}
+use Rattle.edt_base.specs.Ords.{OrdsData, ords_at}
 use Rattle.edt_base.specs.NodeData.{NodeData}
 use Rattle.edt_base.specs.PropData.{PropData}
 use Rattle.edt_base.specs.ValData.{ValData, bool_val, int_val, ints_val, u8s_val, str_val, strs_val, node_val, nodes_val, entries_val}
@@ -67,16 +67,6 @@ id_pieces path = lit (codes "DT_N") ∷ names_pieces path
 -- the id of the node at a place
 abbrev pub id_at : List NodeData → ℕ → List PieceData
 id_at nodes id = id_pieces (path_at nodes id)
-
--- the node at a place is okay
-abbrev pub is_okay : List NodeData → ℕ → Bool
-is_okay nodes id = option_map_or (λ (x : NodeData). bytes_eq x.status (codes "okay")) (slice_get nodes id) false
-
-abbrev pub okay_of : List NodeData → List ℕ → List ℕ
-okay_of nodes ids = filter (is_okay nodes) ids
-
-abbrev pub children_at : List NodeData → ℕ → List ℕ
-children_at nodes id = unwrap_or (option_map (λ (x : NodeData). x.children) (slice_get nodes id)) []
 
 -- how many children of a node come before a place
 abbrev pub child_place : List NodeData → ℕ → ℕ → ℕ
@@ -171,11 +161,6 @@ order_facts n path ords y =
 -- a word behind a marker
 abbrev pub marked : ℕ → List ℕ → List ℕ → List ℕ → FactData
 marked n path mark word = plain n path (lit mark ∷ form word ∷ []) yes
-
--- the buses of a node that is on one
-abbrev pub buses_on : Option ℕ → List (List ℕ) → List (List ℕ)
-buses_on None buses = []
-buses_on (Some up) buses = buses
 
 -- 6 and 7: status, compatible strings, bus
 abbrev pub match_facts : List NodeData → ℕ → NodeData → BoundNodeData → List FactData

@@ -1,7 +1,8 @@
 -- What is left of a body, in pieces.
 use Rattle.std.specs.Prelude.{ℕ, List, [], ◌∷◌, ◌++◌, codes, map}
 use Rattle.std.specs.List.{flat_map}
-use Rattle.dt_names.specs.Facts.{id_at, id_pieces, okay_of, elem_visit, visit, visits, visit_end, between, ords_body, braces}
+use Rattle.dt_names.specs.Facts.{id_at, id_pieces, elem_visit, visit, visits, visit_end, between, ords_body, braces}
+use Rattle.edt_base.specs.Nodes.{okay_of}
 use Rattle.dt_names.specs.Pieces.{PieceData, lit, form, str, num}
 use Rattle.dt_names.specs.Places.{places_in}
 use Rattle.dt_names.specs.Words.{piece_of}

@@ -2,7 +2,7 @@
 use Rattle.std.specs.Prelude.{◌≡◌, ◌++◌, ℕ, List, [], ◌∷◌, decimal}
 use Rattle.std.specs.List.{Contains}
 use Rattle.edt_base.specs.BoundData.{BoundData}
-use Rattle.edt_base.specs.Marks.{form_of}
+use Rattle.edt_base.specs.Forms.{form_of}
 use Rattle.dt_names.specs.Facts.{FactData, facts, full_name}
 use Rattle.dt_names.specs.Pieces.{PieceData, lit, form, str, num, quoted, spells}
 

@@ -1,7 +1,7 @@
 -- What the names and bodies of definitions are made of, and how it is spelled.
 use Rattle.std.specs.Prelude.{◌==◌, ◌+◌, ◌/◌, ◌%◌, ◌++◌, ◌&&◌, ◌||◌, ℕ, List, [], ◌∷◌, decimal, nat_le, if◌then◌else◌}
 use Rattle.std.specs.List.{flat_map}
-use Rattle.edt_base.specs.Marks.{form_of}
+use Rattle.edt_base.specs.Forms.{form_of}
 
 -- a piece of a name or a body
 pub data PieceData : Type 0 where

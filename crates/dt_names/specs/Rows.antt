@@ -1,9 +1,9 @@
 -- What the rows of the walk stand for: the shapes of names and bodies, and the definition that a row is.
 use Rattle.std.specs.Prelude.{◌++◌, ℕ, true, false, List, [], ◌∷◌, Option, Some, None, codes, length, map, take, if◌then◌else◌}
 use Rattle.std.specs.List.{range_with_len}
-use Rattle.edt_base.specs.IndexData.{path_at}
+use Rattle.edt_base.specs.Nodes.{path_at, okay_of}
 use Rattle.edt_base.specs.NodeData.{NodeData}
-use Rattle.dt_names.specs.Facts.{FactData, id_at, okay_of, ords_body, braces, elem_visit, fact, visits, titled}
+use Rattle.dt_names.specs.Facts.{FactData, id_at, ords_body, braces, elem_visit, fact, visits, titled}
 use Rattle.dt_names.specs.Lists.{values_of}
 use Rattle.dt_names.specs.Pieces.{PieceData, lit, form, num}
 use Rattle.dt_names.specs.Words.{piece_of}

@@ -3,7 +3,7 @@ use Rattle.std.specs.Prelude.{◌≡◌, ◌++◌, ℕ, List, [], ◌∷◌, cod
 use Rattle.std.specs.Option.{option_map_or}
 use Rattle.edt_base.specs.BoundData.{BoundData}
 use Rattle.edt_base.specs.BoundNodeData.{BoundNodeData}
-use Rattle.edt_base.specs.Marks.{ords_at}
+use Rattle.edt_base.specs.Ords.{ords_at}
 use Rattle.edt_base.specs.NodeData.{NodeData}
 use Rattle.edt_base.specs.PropData.{PropData}
 use Rattle.dt_names.specs.Facts.{FactData, each, path_facts, child_facts, order_facts, match_facts, entry_facts, prop_facts, titled, tree_facts}

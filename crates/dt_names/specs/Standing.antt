@@ -1,6 +1,6 @@
 -- A node at a place of a tree.
 use Rattle.std.specs.Prelude.{◌≡◌, ◌+◌, ◌^◌, ◌<◌, ℕ, List, ◌∷◌, drop, length}
-use Rattle.edt_base.specs.IndexData.{path_at}
+use Rattle.edt_base.specs.Nodes.{path_at}
 use Rattle.edt_base.specs.NodeData.{NodeData}
 
 -- the node stands at this place

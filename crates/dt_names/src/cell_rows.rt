@@ -4,7 +4,7 @@
 ghost use Rattle.std.specs.Prelude.{◌≡◌, ◌∷◌, ◌++◌, [], Some, codes, option_map, MatchBool};
 ghost use Rattle.std.specs.List.{flat_map};
 ghost use Rattle.std.specs.Option.{option_map_or};
-ghost use Rattle.edt_base.specs.IndexData.{path_at};
+ghost use Rattle.edt_base.specs.Nodes.{path_at};
 ghost use Rattle.dt_names.specs.Facts.{cell_facts, irq_lines, irq_facts, pha_lines, pha_facts};
 ghost use Rattle.dt_names.specs.Pieces.{lit, form};
 ghost use Rattle.dt_names.specs.Rows.{at_pieces};
@@ -30,7 +30,7 @@ pub(crate) struct CellRows<'a> {
 impl<'a> Model for CellRows<'a> {
     ghost use Rattle.std.specs.Prelude.{◌++◌, List};
     ghost use Rattle.std.specs.List.{flat_map};
-    ghost use Rattle.edt_base.specs.IndexData.{path_at};
+    ghost use Rattle.edt_base.specs.Nodes.{path_at};
     ghost use Rattle.dt_names.specs.Facts.{FactData, cell_facts};
     ghost use Rattle.dt_names.specs.Rows.{at_pieces};
 

@@ -1,9 +1,9 @@
-//! The place of a node among its siblings, and how many nodes are okay.
+//! The place of a node among its siblings.
 
 ghost use Rattle.std.specs.Prelude.{◌≡◌, [], MatchOption, drop, length, nat_lt, option_map, slice_get};
 ghost use Rattle.std.specs.List.{filter};
 ghost use Rattle.edt_base.specs.TreeData.{IsWellFormed};
-ghost use Rattle.dt_names.specs.Facts.{child_place, okay_of, is_okay};
+ghost use Rattle.dt_names.specs.Facts.{child_place};
 ghost use Rattle.dt_names.specs.Standing.{StandsAt};
 ghost use Rattle.dt_names.specs.Rising.{IsRisingFrom};
 
@@ -15,7 +15,7 @@ pub(crate) fn child_place(bound: &Bound, up: u32, n: u32) -> usize
 {
     tree_is_well_formed(bound);
     match node_at(bound, up) {
-        Some(node) => count_below(children(node), n),
+        Some(node) => count_below(node.children(), n),
         None => 0,
     }
 }
@@ -52,13 +52,6 @@ pub(crate) fn node_from(bound: &Bound, index: u32) -> Option<&NodeRec>
     }
 }
 
-/// The children of a node.
-pub(crate) fn children(node: &NodeRec) -> &[NodeId]
-    ensures { result.now ≡ node.now.children }
-{
-    node.children.as_slice()
-}
-
 // How many of some rising places are below one.
 fn count_below(ids: &[NodeId], n: u32) -> usize
     requires { IsRisingFrom 0 ids.now }
@@ -67,30 +60,5 @@ fn count_below(ids: &[NodeId], n: u32) -> usize
     match ids.binary_search(&NodeId(n)) {
         Ok(place) => place,
         Err(place) => place,
-    }
-}
-
-/// How many of some nodes are okay.
-pub(crate) fn okay_count(bound: &Bound, ids: &[NodeId]) -> usize
-    ensures { result ≡ length (okay_of bound.now.tree.nodes ids.now) }
-{
-    let mut count: usize = 0;
-    let mut left = ids;
-    while let Some((id, rest)) = left.split_first() {
-        if is_okay(bound, id.0) {
-            count += 1;
-        }
-        left = rest;
-    }
-    count
-}
-
-// The node at a place is okay.
-fn is_okay(bound: &Bound, id: u32) -> bool
-    ensures { result ≡ is_okay bound.now.tree.nodes id }
-{
-    match node_at(bound, id) {
-        Some(node) => node.status.as_str() == "okay",
-        None => false,
     }
 }

@@ -1,10 +1,9 @@
 //! The definitions of a node on its children.
 
 ghost use Rattle.std.specs.Prelude.{◌≡◌, ◌∷◌, [], MatchBool};
-ghost use Rattle.edt_base.specs.IndexData.{path_at};
+ghost use Rattle.edt_base.specs.Nodes.{path_at};
 ghost use Rattle.dt_names.specs.Facts.{child_rows};
 
-use crate::child_place::okay_count;
 use crate::fact::{Fact, Queue};
 use crate::row::{At, Ending, Things};
 use crate::rows::{number, walks};
@@ -33,7 +32,7 @@ impl<'a> ChildRows<'a> {
     pub(crate) fn new(bound: &'a Bound, n: u32, children: &'a [NodeId]) -> ChildRows<'a>
         ensures { result ≡ child_rows bound.now.tree.nodes n (path_at bound.now.tree.nodes n) children.now }
     {
-        let okay = okay_count(bound, children) as u128;
+        let okay = bound.tree.okay_count(children) as u128;
         let count = children.len() as u128;
         ChildRows {
             counts: Queue::four(

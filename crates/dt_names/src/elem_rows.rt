@@ -2,7 +2,7 @@
 
 ghost use Rattle.std.specs.Prelude.{◌≡◌, ◌∷◌, ◌++◌, [], codes, option_map, MatchBool};
 ghost use Rattle.std.specs.Option.{option_map_or};
-ghost use Rattle.edt_base.specs.IndexData.{path_at};
+ghost use Rattle.edt_base.specs.Nodes.{path_at};
 ghost use Rattle.dt_names.specs.Elems.{element, elements_left};
 ghost use Rattle.dt_names.specs.Facts.{choice_lines, each, elem_lines, id_at, item_rows, node_rows, plain};
 ghost use Rattle.dt_names.specs.Pieces.{lit, num};
@@ -191,7 +191,7 @@ pub(crate) struct ElemRows<'a> {
 
 impl<'a> Model for ElemRows<'a> {
     ghost use Rattle.std.specs.Prelude.{◌≡◌, ◌+◌, ◌++◌, List, length};
-    ghost use Rattle.edt_base.specs.IndexData.{path_at};
+    ghost use Rattle.edt_base.specs.Nodes.{path_at};
     ghost use Rattle.dt_names.specs.Elems.{elements_left};
     ghost use Rattle.dt_names.specs.Facts.{FactData, each, elem_lines};
 

@@ -1,7 +1,7 @@
 //! A definition, and the queue in which definitions that come together wait.
 
 ghost use Rattle.std.specs.Prelude.{◌≡◌, ◌∷◌, ◌++◌, [], drop, option_map, take, if◌then◌else◌, MatchBool};
-ghost use Rattle.edt_base.specs.IndexData.{path_at};
+ghost use Rattle.edt_base.specs.Nodes.{path_at};
 ghost use Rattle.dt_names.specs.Clash.{said};
 ghost use Rattle.dt_names.specs.Facts.{full_name};
 ghost use Rattle.dt_names.specs.Keys.{behind_prop, is_of_prop};

@@ -1,7 +1,7 @@
 //! All definitions of a bound tree, in order.
 
 ghost use Rattle.std.specs.Prelude.{◌≡◌, ◌∷◌, [], MatchOption, unwrap_or, MatchBool};
-ghost use Rattle.edt_base.specs.IndexData.{path_at};
+ghost use Rattle.edt_base.specs.Nodes.{path_at};
 ghost use Rattle.dt_names.specs.Facts.{each, facts, titled_node};
 
 use crate::child_place::node_from;

@@ -1,12 +1,12 @@
 //! The form of a text.
 
 ghost use Rattle.std.specs.Prelude.{◌≡◌, ◌<◌, IfOk, IfSome, option_to_list};
-ghost use Rattle.edt_base.specs.Marks.{form_of, form_char};
+ghost use Rattle.edt_base.specs.Forms.{form_of, form_char};
 
 use edt_base::Text;
 use std::alloc::{AllocError, Global};
 
-#[tactic(auto, unfolding(edt_base::specs::Marks::form_of))]
+#[tactic(auto, unfolding(edt_base::specs::Forms::form_of))]
 /// The form of a text, in which names have it: letters in lower case, digits, and `_` for every other
 /// character (Zephyr 3.7, "Devicetree API", "lowercase-and-underscores form"). The one error is want of
 /// memory.

@@ -1,8 +1,8 @@
 //! What a definition says besides its name, to be compared with what a later one says.
 
 ghost use Rattle.std.specs.Prelude.{◌≡◌, IfOk, List, ℕ, map, true};
-ghost use Rattle.edt_base.specs.IndexData.{path_at};
-ghost use Rattle.edt_base.specs.Marks.{form_of};
+ghost use Rattle.edt_base.specs.Nodes.{path_at};
+ghost use Rattle.edt_base.specs.Forms.{form_of};
 ghost use Rattle.dt_names.specs.Clash.{AreSame, same_params, same_said};
 ghost use Rattle.dt_names.specs.Facts.{elem_visit, id_at};
 ghost use Rattle.dt_names.specs.Pieces.{spells};
@@ -148,7 +148,7 @@ fn same_ids(a: &Bound, left: &[NodeId], b: &Bound, right: &[NodeId]) -> bool
 }
 
 // Two texts have one form.
-#[tactic(auto, unfolding(edt_base::specs::Marks::form_of))]
+#[tactic(auto, unfolding(edt_base::specs::Forms::form_of))]
 fn same_form(a: &[u8], b: &[u8]) -> bool
     ensures { result ≡ true → form_of a.now ≡ form_of b.now }
 {

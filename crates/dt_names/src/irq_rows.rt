@@ -1,7 +1,7 @@
 //! The definitions of a node on its interrupts, and with them those on its registers and ranges.
 
 ghost use Rattle.std.specs.Prelude.{◌≡◌, ◌∷◌, [], MatchBool};
-ghost use Rattle.edt_base.specs.IndexData.{path_at};
+ghost use Rattle.edt_base.specs.Nodes.{path_at};
 ghost use Rattle.dt_names.specs.Facts.{each, irq_facts, entry_facts, plain};
 ghost use Rattle.dt_names.specs.Pieces.{lit, num};
 ghost use Rattle.dt_names.specs.Groups.{range_irq_facts};
@@ -27,7 +27,7 @@ struct IrqRows<'a> {
 
 impl<'a> Model for IrqRows<'a> {
     ghost use Rattle.std.specs.Prelude.{◌≡◌, ◌+◌, ◌++◌, List, length};
-    ghost use Rattle.edt_base.specs.IndexData.{path_at};
+    ghost use Rattle.edt_base.specs.Nodes.{path_at};
     ghost use Rattle.dt_names.specs.Facts.{FactData, each, irq_facts};
 
     ghost Value = { List FactData };

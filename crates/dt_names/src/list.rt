@@ -1,7 +1,8 @@
 //! Bodies, word by word: one piece, visits, ordinals, and values in braces.
 
 ghost use Rattle.std.specs.Prelude.{◌≡◌, ◌∷◌, ◌++◌, [], MatchOption};
-ghost use Rattle.dt_names.specs.Facts.{okay_of, is_okay, between, visit_end};
+ghost use Rattle.dt_names.specs.Facts.{between, visit_end};
+ghost use Rattle.edt_base.specs.Nodes.{okay_of, is_okay};
 ghost use Rattle.dt_names.specs.Lists.{listed, things_of, thing_pieces, values_of};
 ghost use Rattle.dt_names.specs.Pieces.{lit, num};
 ghost use Rattle.dt_names.specs.Places.{places_in};
@@ -228,8 +229,8 @@ fn next_thing<'a>(things: Visited<'a>) -> Option<(Thing<'a>, Visited<'a>)>
     }
 }
 
-/// Whether the node at a place is okay.
-pub(crate) fn is_okay(bound: &Bound, node: usize) -> bool
+// Whether the node at a place is okay.
+fn is_okay(bound: &Bound, node: usize) -> bool
     ensures { result ≡ is_okay bound.now.tree.nodes node }
 {
     match bound.tree.nodes().get(node) {
@@ -238,19 +239,15 @@ pub(crate) fn is_okay(bound: &Bound, node: usize) -> bool
     }
 }
 
-// The first of these nodes that is okay, and those behind it.
+// The first of these nodes that is okay, and those after it.
 fn next_okay<'a>(bound: &Bound, ids: &'a [NodeId]) -> Option<(usize, &'a [NodeId])>
     ensures { MatchOption result (okay_of bound.now.tree.nodes ids.now ≡ [])
         (λ r. okay_of bound.now.tree.nodes ids.now ≡ r.0 ∷ okay_of bound.now.tree.nodes r.1.now) }
 {
-    let mut left = ids;
-    while let Some((id, rest)) = left.split_first() {
-        if is_okay(bound, id.0 as usize) {
-            return Some((id.0 as usize, rest));
-        }
-        left = rest;
+    match bound.tree.next_okay(ids) {
+        Some((id, rest)) => Some((id.0 as usize, rest)),
+        None => None,
     }
-    None
 }
 
 // The first of these places whose node is okay, and those behind it.

@@ -1,7 +1,7 @@
 //! The definitions of a node on its status, its compatible strings and its bus.
 
 ghost use Rattle.std.specs.Prelude.{◌≡◌, ◌∷◌, [], map, MatchBool};
-ghost use Rattle.edt_base.specs.IndexData.{path_at};
+ghost use Rattle.edt_base.specs.Nodes.{path_at};
 ghost use Rattle.dt_names.specs.Facts.{marked, match_facts};
 
 use crate::fact::{Fact, Single};
@@ -21,7 +21,7 @@ pub(crate) struct Marked<'a> {
 
 impl<'a> Model for Marked<'a> {
     ghost use Rattle.std.specs.Prelude.{List, map};
-    ghost use Rattle.edt_base.specs.IndexData.{path_at};
+    ghost use Rattle.edt_base.specs.Nodes.{path_at};
     ghost use Rattle.dt_names.specs.Facts.{FactData, marked};
 
     ghost Value = { List FactData };

@@ -1,11 +1,10 @@
 //! All definitions of a node, in two parts: those before its properties, and those on them.
 
 ghost use Rattle.std.specs.Prelude.{◌≡◌, ◌∷◌, [], option_map, slice_get, unwrap_or, MatchBool};
-ghost use Rattle.edt_base.specs.IndexData.{path_at};
+ghost use Rattle.edt_base.specs.Nodes.{path_at};
 ghost use Rattle.dt_names.specs.Facts.{node_facts, titled, titled_node};
 ghost use Rattle.dt_names.specs.Sections.{head_facts, head_section, props_at};
 
-use crate::child_place::children;
 use crate::child_rows::ChildRows;
 use crate::fact::{Fact, Queue};
 use crate::irq_rows::ResourceRows;
@@ -41,7 +40,7 @@ impl<'a> HeadRows<'a> {
     {
         HeadRows {
             path: path_rows(bound, n, node),
-            children: ChildRows::new(bound, n, children(node)),
+            children: ChildRows::new(bound, n, node.children()),
             order: order_rows(bound, n, bind),
             matches: MatchRows::new(bound, n, node, bind),
             resources: ResourceRows::new(bound, n, bind),

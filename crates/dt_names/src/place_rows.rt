@@ -2,8 +2,8 @@
 //! among its siblings, its ordinal.
 
 ghost use Rattle.std.specs.Prelude.{◌≡◌};
-ghost use Rattle.edt_base.specs.IndexData.{path_at};
-ghost use Rattle.edt_base.specs.Marks.{ords_at};
+ghost use Rattle.edt_base.specs.Nodes.{path_at};
+ghost use Rattle.edt_base.specs.Ords.{ords_at};
 ghost use Rattle.dt_names.specs.Facts.{path_facts, order_facts};
 
 use crate::child_place::child_place;

@@ -3,7 +3,7 @@
 ghost use Rattle.std.specs.Prelude.{◌≡◌, ◌∷◌, [], option_map, unwrap_or, MatchBool};
 ghost use Rattle.std.specs.List.{flat_map};
 ghost use Rattle.std.specs.Option.{option_map_or};
-ghost use Rattle.edt_base.specs.IndexData.{path_at};
+ghost use Rattle.edt_base.specs.Nodes.{path_at};
 ghost use Rattle.dt_names.specs.Rows.{body_pieces};
 ghost use Rattle.dt_names.specs.Groups.{shown_as};
 ghost use Rattle.dt_names.specs.declared.piece.Params.TheVariants.{Plain};
@@ -296,7 +296,7 @@ pub(crate) struct PropsRows<'a> {
 impl<'a> Model for PropsRows<'a> {
     ghost use Rattle.std.specs.Prelude.{◌++◌, [], List, unwrap_or};
     ghost use Rattle.std.specs.List.{flat_map};
-    ghost use Rattle.edt_base.specs.IndexData.{path_at};
+    ghost use Rattle.edt_base.specs.Nodes.{path_at};
     ghost use Rattle.dt_names.specs.Facts.{FactData, prop_facts};
 
     ghost Value = { List FactData };

@@ -2,7 +2,7 @@
 
 ghost use Rattle.std.specs.Prelude.{◌≡◌, ◌∷◌, [], codes, MatchBool};
 ghost use Rattle.std.specs.Option.{option_map_or};
-ghost use Rattle.edt_base.specs.IndexData.{path_at};
+ghost use Rattle.edt_base.specs.Nodes.{path_at};
 ghost use Rattle.dt_names.specs.Facts.{each, reg_lines, reg_facts, range_facts, range_lines};
 ghost use Rattle.dt_names.specs.Pieces.{lit, form};
 ghost use Rattle.dt_names.specs.Rows.{at_pieces};
@@ -81,7 +81,7 @@ pub(crate) struct RegRows<'a> {
 
 impl<'a> Model for RegRows<'a> {
     ghost use Rattle.std.specs.Prelude.{◌≡◌, ◌+◌, ◌++◌, List, length};
-    ghost use Rattle.edt_base.specs.IndexData.{path_at};
+    ghost use Rattle.edt_base.specs.Nodes.{path_at};
     ghost use Rattle.dt_names.specs.Facts.{FactData, each, reg_facts};
 
     ghost Value = { List FactData };
@@ -177,7 +177,7 @@ pub(crate) struct RangeRows<'a> {
 
 impl<'a> Model for RangeRows<'a> {
     ghost use Rattle.std.specs.Prelude.{◌≡◌, ◌+◌, ◌++◌, List, length};
-    ghost use Rattle.edt_base.specs.IndexData.{path_at};
+    ghost use Rattle.edt_base.specs.Nodes.{path_at};
     ghost use Rattle.dt_names.specs.Facts.{FactData, each, range_facts};
 
     ghost Value = { List FactData };

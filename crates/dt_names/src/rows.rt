@@ -1,7 +1,7 @@
 //! How rows are made.
 
 ghost use Rattle.std.specs.Prelude.{◌≡◌, ◌++◌, ◌∷◌, [], List};
-ghost use Rattle.edt_base.specs.IndexData.{path_at};
+ghost use Rattle.edt_base.specs.Nodes.{path_at};
 ghost use Rattle.edt_base.specs.NodeData.{NodeData};
 ghost use Rattle.dt_names.specs.Facts.{link, walks};
 ghost use Rattle.dt_names.specs.Pieces.{lit};

@@ -1,7 +1,7 @@
 //! The definitions of a bound tree in sections that stand together, one by one.
 
 ghost use Rattle.std.specs.Prelude.{◌≡◌, [], List, MatchOption, drop, true};
-ghost use Rattle.edt_base.specs.IndexData.{path_at};
+ghost use Rattle.edt_base.specs.Nodes.{path_at};
 ghost use Rattle.dt_names.specs.Facts.{facts, id_at, prop_facts};
 ghost use Rattle.dt_names.specs.Keys.{GoOn};
 ghost use Rattle.dt_names.specs.Parts.{IsNext, IsSplit, SpeakOf, base_in, base_left, props_of, sections_left};

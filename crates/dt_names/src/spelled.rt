@@ -2,7 +2,7 @@
 
 ghost use Rattle.std.specs.Prelude.{◌≡◌, ◌++◌, IfOk, OnOk};
 ghost use Rattle.std.specs.List.{flat_map};
-ghost use Rattle.edt_base.specs.Marks.{form_of};
+ghost use Rattle.edt_base.specs.Forms.{form_of};
 ghost use Rattle.dt_names.specs.Pieces.{escaped, quoted, spell, spells};
 ghost use Rattle.dt_names.specs.Words.{piece_of};
 
@@ -37,7 +37,7 @@ fn push_piece(text: &mut Vec<u8>, piece: Piece<'_>) -> Result<(), AllocError>
     }
 }
 
-#[tactic(auto, unfolding(edt_base::specs::Marks::form_of))]
+#[tactic(auto, unfolding(edt_base::specs::Forms::form_of))]
 // Puts the form of a text behind another.
 fn push_form(text: &mut Vec<u8>, bytes: &[u8]) -> Result<(), AllocError>
     ensures { OnOk result (text.new.items ≡ text.old.items ++ form_of bytes.now) }

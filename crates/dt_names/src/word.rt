@@ -1,8 +1,9 @@
 //! The words of names and bodies.
 
 ghost use Rattle.std.specs.Prelude.{◌≡◌, ◌+◌, ◌-◌, ◌^◌, length, min};
-ghost use Rattle.edt_base.specs.IndexData.{path_at};
-ghost use Rattle.edt_base.specs.Marks.{form_of, id_size};
+ghost use Rattle.edt_base.specs.Nodes.{path_at};
+ghost use Rattle.edt_base.specs.Forms.{form_of};
+ghost use Rattle.edt_base.specs.Ids.{id_size};
 
 use crate::piece::Piece;
 use edt_base::{Bound, NodeId};
@@ -17,7 +18,7 @@ pub(crate) struct Id<'a> {
 }
 
 impl<'a> Id<'a> {
-    #[tactic(auto, unfolding(edt_base::specs::Marks::id_text))]
+    #[tactic(auto, unfolding(edt_base::specs::Ids::id_text))]
     /// The id of the node at a place, that of an empty path past the nodes. Takes constant time.
     pub(crate) fn of(bound: &'a Bound, node: usize) -> Id<'a>
         ensures { result.path.now ≡ path_at bound.now.tree.nodes node }
@@ -70,7 +71,7 @@ impl<'a> Name<'a> {
     }
 }
 
-#[tactic(auto, unfolding(edt_base::specs::Marks::form_of))]
+#[tactic(auto, unfolding(edt_base::specs::Forms::form_of))]
 /// The length of a text's form, at most the greatest 64-bit number.
 pub(crate) fn form_len(text: &[u8]) -> u64
     ensures { result ≡ min (length (form_of text.now)) (2 ^ 64 - 1) }

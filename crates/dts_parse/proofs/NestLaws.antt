@@ -5,7 +5,7 @@ use Rattle.std.specs.List.{list_all, list_any, prefix_len}
 use Rattle.std.proofs.lemmas.Bool.{and_from, and_parts, eqb-true}
 use Rattle.std.proofs.lemmas.List.{take-append-drop}
 use Rattle.edt_base.specs.SourceBytes.{is_node_byte, is_plain, begins_label}
-use Rattle.edt_base.specs.SourceNames.{is_label, is_no_sign, is_node_name, is_node_word, is_prop_name, is_unit}
+use Rattle.edt_base.specs.SourceNames.{is_label, is_no_at, is_node_name, is_node_word, is_prop_name, is_unit}
 use Rattle.dts_parse.specs.Exprs.{literal_worth, worth_of}
 use Rattle.dts_parse.specs.Nested.{act_refs, ends_with_zero, fits_place, is_even, is_good_cell, is_good_name, is_good_part, is_reference, nest, nested, refs}
 use Rattle.dts_parse.specs.Statements.{AreFit, Lead, No_lead, Label_lead, Mark_lead, Pieces, Nothing_yet, Short_, Open_root, Open_ref, Open_child, Flag_, Assign_, Short, Version_, Plugin_, Reserve_, Delete_ref, Omit_ref, Delete_child, Delete_prop, End_node, below, head, is_empty, labels_of, marks_of, omits, place, place_behind, script, tail, takes_top, with_short}
@@ -98,7 +98,7 @@ unit_slash (b ∷ rest) h =
 
 node_good : (text : List ℕ) → is_node_name text ≡ true → is_good_name text ≡ true
 node_good text h =
-    let n : ℕ = prefix_len is_no_sign text in
+    let n : ℕ = prefix_len is_no_at text in
     let k : (is_node_word (take n text) ≡ true) × (is_unit (drop n text) ≡ true) = and_parts _ _ h in
     let parts : take n text ++ drop n text ≡ text = take-append-drop n text in
     let no : list_any (nat_eq 47) text ≡ false = subst (λ (xs : List ℕ). list_any (nat_eq 47) xs ≡ false) parts (slash_append (take n text) (drop n text) (word_slash (take n text) k.0) (unit_slash (drop n text) k.1)) in

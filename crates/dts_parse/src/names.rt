@@ -2,7 +2,7 @@
 
 ghost use Rattle.std.specs.Prelude.{◌≡◌, ◌≤◌, length};
 ghost use Rattle.std.specs.List.{list_all, prefix_len};
-ghost use Rattle.edt_base.specs.SourceNames.{is_label, is_no_sign, is_node_name, is_node_word, is_prop_name, is_unit};
+ghost use Rattle.edt_base.specs.SourceNames.{is_label, is_no_at, is_node_name, is_node_word, is_prop_name, is_unit};
 ghost use Rattle.edt_base.specs.SourceBytes.{is_node_byte, is_plain, is_prop_byte};
 ghost use Rattle.dts_parse.specs.Token.{form_of, is_ascii, name_form};
 
@@ -60,7 +60,7 @@ fn is_node_name(text: &[u8]) -> bool
 
 /// How many bytes stand before the first `@`.
 fn sign_place(text: &[u8]) -> usize
-    ensures place { result ≡ prefix_len is_no_sign text.now }
+    ensures place { result ≡ prefix_len is_no_at text.now }
     ensures within { result ≤ length text.now }
 {
     text.iter().take_while(|byte| **byte != b'@').count()

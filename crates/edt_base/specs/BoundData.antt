@@ -7,7 +7,8 @@ use Rattle.edt_base.specs.BoundNodeData.{BoundNodeData, IsBoundNode}
 use Rattle.edt_base.specs.InstData.{InstData}
 use Rattle.edt_base.specs.Instances.{AreInstances}
 
--- the tree, what is bound to each node, the nodes in the order of dependencies, the instances, and the places of the header's repeated definitions
+-- the tree, what is bound to each node, the nodes in the order of dependencies, the instances, and the places of the
+-- header's repeated definitions
 pub record BoundData : Type 0 where
   pub tree : TreeData
   pub nodes : List BoundNodeData

@@ -8,7 +8,8 @@ use Rattle.edt_base.specs.PropData.{PropData, IsTyped}
 use Rattle.edt_base.specs.declared.bound.Reg.{Reg}
 use Rattle.edt_base.specs.declared.bound.Range.{Range}
 
--- its typed properties, registers, ranges and interrupts, the nodes that it requires and supports, its ordinal and its bus
+-- its typed properties, registers, ranges and interrupts, the nodes that it requires and supports, its ordinal and its
+-- bus
 pub record BoundNodeData : Type 0 where
   pub props : List PropData
   pub regs : List Reg

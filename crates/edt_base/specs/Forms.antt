@@ -9,7 +9,8 @@ form_byte c =
     if nat_le upper_a c && nat_le c upper_z then c + 32 else
     if (nat_le lower_a c && nat_le c lower_z) || (nat_le digit_0 c && nat_le c digit_9) then c else underscore
 
--- what a byte of a text gives to its form: one `_` for each character beyond ASCII, whose further bytes are those from 128 to 191
+-- what a byte of a text gives to its form: one `_` for each character beyond ASCII, whose further bytes are those from
+-- 128 to 191
 abbrev pub form_char : ℕ → List ℕ
 form_char c = if nat_lt c beyond_ascii then form_byte c ∷ [] else if nat_lt c 192 then [] else underscore ∷ []
 

@@ -12,7 +12,8 @@ use Rattle.edt_base.specs.Nodes.{is_okay, okay_of}
 
 -- the node at a place lists the string, once or more often
 abbrev pub lists_at : List NodeData → List ℕ → ℕ → Bool
-lists_at nodes compat id = option_map_or (λ (n : NodeData). list_any (λ c. bytes_eq c compat) n.compats) (slice_get nodes id) false
+lists_at nodes compat id =
+    option_map_or (λ (n : NodeData). list_any (λ c. bytes_eq c compat) n.compats) (slice_get nodes id) false
 
 -- the places of the nodes that list the string, in preorder
 abbrev pub listing : List NodeData → List ℕ → List ℕ
@@ -20,7 +21,8 @@ listing nodes compat = filter (lists_at nodes compat) (range_with_len 0 (length 
 
 -- the instances by their numbers: the okay ones of these nodes in preorder, then the others in preorder
 abbrev pub instances_of : List NodeData → List ℕ → List ℕ
-instances_of nodes compat = okay_of nodes (listing nodes compat) ++ filter (λ id. not (is_okay nodes id)) (listing nodes compat)
+instances_of nodes compat =
+    okay_of nodes (listing nodes compat) ++ filter (λ id. not (is_okay nodes id)) (listing nodes compat)
 
 -- what is kept of the instances of a compatible string
 pub record IsInst (all : List NodeData) (i : InstData) : Type 0 where
@@ -42,4 +44,5 @@ pub record AreInstances (nodes : List NodeData) (insts : List InstData) : Type 0
   -- the strings stand in byte order, each once
   pub order : IsStrictlySortedBy (slice_cmp nat_cmp) (compats_of insts)
   -- each string that a node lists is there
-  pub every : (id : ℕ) (n : NodeData) (compat : List ℕ) → slice_get nodes id ≡ Some n → Contains n.compats compat → Contains (compats_of insts) compat
+  pub every : (id : ℕ) (n : NodeData) (compat : List ℕ) → slice_get nodes id ≡ Some n → Contains n.compats compat
+      → Contains (compats_of insts) compat

@@ -67,7 +67,8 @@ mem_sink_seen s = record { bytes = Some s.taken; faults = s.faults; room = sure_
 
 -- the next write is refused: it is listed, or the piece has bytes and there is no room
 abbrev pub refuses : MemSinkData → List ℕ → Bool
-refuses s piece = is_listed s.fail (number_after s.calls) || (not (nat_eq (length piece) 0) && nat_eq (length s.taken) s.room)
+refuses s piece = is_listed s.fail (number_after s.calls)
+    || (not (nat_eq (length piece) 0) && nat_eq (length s.taken) s.room)
 
 -- how many bytes of a piece the next write takes where it isn't refused
 abbrev pub taken_of : MemSinkData → List ℕ → ℕ

@@ -12,7 +12,8 @@ abbrev pub IsFaultAt : Rule → List ℕ → End → Type 0
 IsFaultAt r path (ending.Fault f) = (f.rule ≡ r) × (f.place ≡ place.Node path)
 IsFaultAt r path (ending.Memory e) = ⊤
 
--- where an answer is a rule that is broken, or what was asked for: why it isn't what was asked for, told at the node of this path
+-- where an answer is a rule that is broken, or what was asked for: why it isn't what was asked for, told at the node of
+-- this path
 abbrev pub IsRefused : {X : Type 0} → Result X Rule → List ℕ → End → Type 0
 IsRefused answer path (ending.Fault f) = (answer ≡ Err f.rule) × (f.place ≡ place.Node path)
 IsRefused answer path (ending.Memory e) = ⊤

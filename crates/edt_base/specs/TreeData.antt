@@ -34,7 +34,8 @@ ancestors nodes i = ancestors_within (length nodes) nodes i
 -- among nodes that stand from a place on, the places of those whose parent is i
 abbrev pub children_from : ℕ → List NodeData → ℕ → List ℕ
 children_from first [] i = []
-children_from first (n ∷ ns) i = if holds_number i n.parent then first ∷ children_from (first + 1) ns i else children_from (first + 1) ns i
+children_from first (n ∷ ns) i = if holds_number i n.parent then first ∷ children_from (first + 1) ns i
+    else children_from (first + 1) ns i
 
 -- the places of a node's children, in rising order
 abbrev pub children_of : List NodeData → ℕ → List ℕ
@@ -50,15 +51,18 @@ child_path parent name = below parent.parent
 
 -- no two nodes share a path
 abbrev pub PathsApart : List NodeData → Type 0
-PathsApart nodes = (i j : ℕ) (n m : NodeData) → slice_get nodes i ≡ Some n → slice_get nodes j ≡ Some m → n.path ≡ m.path → i ≡ j
+PathsApart nodes = (i j : ℕ) (n m : NodeData) → slice_get nodes i ≡ Some n → slice_get nodes j ≡ Some m
+    → n.path ≡ m.path → i ≡ j
 
 -- no two nodes share a label
 abbrev pub LabelsApart : List NodeData → Type 0
-LabelsApart nodes = (i j : ℕ) (n m : NodeData) (label : List ℕ) → slice_get nodes i ≡ Some n → slice_get nodes j ≡ Some m → has_label label n ≡ true → has_label label m ≡ true → i ≡ j
+LabelsApart nodes = (i j : ℕ) (n m : NodeData) (label : List ℕ) → slice_get nodes i ≡ Some n
+    → slice_get nodes j ≡ Some m → has_label label n ≡ true → has_label label m ≡ true → i ≡ j
 
 -- no two nodes share a phandle
 abbrev pub PhandlesApart : List NodeData → Type 0
-PhandlesApart nodes = (i j : ℕ) (n m : NodeData) (number : ℕ) → slice_get nodes i ≡ Some n → slice_get nodes j ≡ Some m → phandle_of n ≡ Some number → phandle_of m ≡ Some number → i ≡ j
+PhandlesApart nodes = (i j : ℕ) (n m : NodeData) (number : ℕ) → slice_get nodes i ≡ Some n → slice_get nodes j ≡ Some m
+    → phandle_of n ≡ Some number → phandle_of m ≡ Some number → i ≡ j
 
 -- the bytes end with a zero
 abbrev pub EndsWithZero : List ℕ → Type 0
@@ -81,7 +85,8 @@ pub record IsWellFormed (t : TreeData) : Type 0 where
   -- no other node is without a parent
   pub alone : (i : ℕ) (n : NodeData) → slice_get t.nodes i ≡ Some n → n.parent ≡ None → i ≡ 0
   -- the nodes stand in preorder: the parent of node i + 1 is node i or a node above it
-  pub preorder : (i p : ℕ) (n : NodeData) → slice_get t.nodes (i + 1) ≡ Some n → n.parent ≡ Some p → IsAtOrAbove t.nodes p i
+  pub preorder : (i p : ℕ) (n : NodeData) → slice_get t.nodes (i + 1) ≡ Some n → n.parent ≡ Some p
+      → IsAtOrAbove t.nodes p i
   -- a node's children are the nodes whose parent it is, in rising order
   pub children : (i : ℕ) (n : NodeData) → slice_get t.nodes i ≡ Some n → n.children ≡ children_of t.nodes i
   -- the root's name
@@ -91,7 +96,8 @@ pub record IsWellFormed (t : TreeData) : Type 0 where
   -- the root's path
   pub root_path : (i : ℕ) (n : NodeData) → slice_get t.nodes i ≡ Some n → n.parent ≡ None → n.path ≡ codes "/"
   -- every other path is the parent's with the name
-  pub child_paths : (i p : ℕ) (n m : NodeData) → slice_get t.nodes i ≡ Some n → n.parent ≡ Some p → slice_get t.nodes p ≡ Some m → n.path ≡ child_path m n.name
+  pub child_paths : (i p : ℕ) (n m : NodeData) → slice_get t.nodes i ≡ Some n → n.parent ≡ Some p
+      → slice_get t.nodes p ≡ Some m → n.path ≡ child_path m n.name
   -- every id is below the number of nodes
   pub parents_in : (i p : ℕ) (n : NodeData) → slice_get t.nodes i ≡ Some n → n.parent ≡ Some p → p < length t.nodes
   pub children_in : (i : ℕ) (n : NodeData) → slice_get t.nodes i ≡ Some n → All (λ c. c < length t.nodes) n.children
@@ -104,4 +110,5 @@ pub record IsWellFormed (t : TreeData) : Type 0 where
   -- no two nodes share a phandle
   pub phandles_apart : PhandlesApart t.nodes
   -- the bytes of a part are as its kind says
-  pub kinds : (i : ℕ) (n : NodeData) → slice_get t.nodes i ≡ Some n → All (λ (p : List ℕ × List Part). All (λ (part : Part). IsKindOf t.nodes part.kind part.bytes) p.1) n.props
+  pub kinds : (i : ℕ) (n : NodeData) → slice_get t.nodes i ≡ Some n
+      → All (λ (p : List ℕ × List Part). All (λ (part : Part). IsKindOf t.nodes part.kind part.bytes) p.1) n.props

@@ -224,7 +224,8 @@ pub struct Bound {
     pub order: Vec<NodeId>,
     /// One item for each compatible string of the tree, in byte order.
     pub insts: Vec<Inst>,
-    /// The places, rising and counted from 0, of the header's definitions that equal an earlier one.
+    /// The places, rising and counted from 0, of the header's definitions that equal an earlier
+    /// one.
     pub doubles: Vec<u64>,
     id_lens: Vec<u64>,
     ords: Vec<Ords>,
@@ -259,8 +260,8 @@ impl Model for Bound {
 }
 
 impl BoundNode {
-    /// The buses that the node is on: those that the binding of its bus node names, none where it is on
-    /// none. Takes no memory.
+    /// The buses that the node is on: those that the binding of its bus node names, none where it
+    /// is on none. Takes no memory.
     pub fn buses_on(&self) -> &[Text]
         ensures { result.now ≡ buses_on self.now.bus self.now.buses }
     {
@@ -310,8 +311,8 @@ impl Bound {
     }
 
     #[tactic(auto, unfolding(crate::specs::Ids::id_text))]
-    /// The length of a node's id in the header, at most the greatest 64-bit number; that of an id past
-    /// the nodes is the root's. Takes no memory.
+    /// The length of a node's id in the header, at most the greatest 64-bit number; that of an id
+    /// past the nodes is the root's. Takes no memory.
     pub fn id_len(&self, id: NodeId) -> u64
         ensures { result ≡ id_size (path_at self.now.tree.nodes id) }
     {

@@ -37,7 +37,8 @@ impl<'a> Cells<'a> {
 
     /// The next byte; none at the end.
     fn byte(&mut self) -> Option<u8>
-        ensures { MatchOption result ((self.old ≡ []) × (self.new ≡ [])) (λ b. self.old ≡ b ∷ self.new) }
+        ensures { MatchOption result ((self.old ≡ []) × (self.new ≡ []))
+            (λ b. self.old ≡ b ∷ self.new) }
     {
         loop {
             if let Some((first, rest)) = self.rest.split_first() {
@@ -53,8 +54,11 @@ impl<'a> Cells<'a> {
     /// The next cell, four bytes, the big end first. None where fewer are left, which are then read
     /// too. Takes no memory.
     pub fn next(&mut self) -> Option<u32>
-        ensures cell { MatchOption result ((length self.old < 4) × (self.new ≡ [])) (λ c. (c ≡ from_be_bytes w32 (take 4 self.old)) × (self.new ≡ drop 4 self.old) × (4 ≤ length self.old)) }
-        ensures cells { MatchOption result (cells_of self.old ≡ []) (λ c. cells_of self.old ≡ c ∷ cells_of self.new) }
+        ensures cell { MatchOption result ((length self.old < 4) × (self.new ≡ []))
+            (λ c. (c ≡ from_be_bytes w32 (take 4 self.old)) × (self.new ≡ drop 4 self.old)
+            × (4 ≤ length self.old)) }
+        ensures cells { MatchOption result (cells_of self.old ≡ [])
+            (λ c. cells_of self.old ≡ c ∷ cells_of self.new) }
         ensures bound { IfSome result (λ c. c < 2 ^ 32) }
     {
         Some(u32::from_be_bytes([self.byte()?, self.byte()?, self.byte()?, self.byte()?]))
@@ -88,16 +92,16 @@ impl<'a> Cells<'a> {
 }
 
 impl PropVal {
-    /// The value's cells, whatever the kinds of its parts; a rest of 1 to 3 bytes is no cell. The one
-    /// error is want of memory.
+    /// The value's cells, whatever the kinds of its parts; a rest of 1 to 3 bytes is no cell. The
+    /// one error is want of memory.
     pub fn cells(&self, alloc: Global) -> Result<Vec<u32>, AllocError>
         ensures { IfOk result (λ v. v.items ≡ value_cells self.now) }
     {
         cells_left(alloc, Cells::of(self.parts.as_slice()))
     }
 
-    /// The cell that the value is, whatever the kinds of its parts; None where it has another number
-    /// of bytes than 4. Takes no memory.
+    /// The cell that the value is, whatever the kinds of its parts; None where it has another
+    /// number of bytes than 4. Takes no memory.
     pub fn single_cell(&self) -> Option<u32>
         ensures { result ≡ single_cell self.now }
     {

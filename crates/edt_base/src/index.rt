@@ -31,7 +31,8 @@ pub struct PhandlePlace {
 }
 
 /// The nodes by their paths, the labels by their texts, the phandles by their numbers and each
-/// node's properties by their names, each list sorted. It holds places alone, and no copy of a text.
+/// node's properties by their names, each list sorted. It holds places alone, and no copy of a
+/// text.
 #[derive(Drop)]
 pub struct Index {
     paths: Vec<NodeId>,

@@ -32,10 +32,11 @@ impl Model for MemFiles {
 }
 
 impl MemFiles {
-    /// Files that hold these names with their bytes. The calls numbered in `fail` fail, counted from 1,
-    /// `list` and `read` together. Takes no memory.
+    /// Files that hold these names with their bytes. The calls numbered in `fail` fail, counted
+    /// from 1, `list` and `read` together. Takes no memory.
     pub fn new(held: Vec<(Text, Bytes)>, fail: Vec<u32>) -> MemFiles
-        ensures { result ≡ record { held = held.items; fail = fail.items; calls = 0; last = None; faults = 0 } }
+        ensures { result
+            ≡ record { held = held.items; fail = fail.items; calls = 0; last = None; faults = 0 } }
     {
         MemFiles {
             held,
@@ -58,7 +59,8 @@ impl MemFiles {
     /// Notes that this call failed.
     fn note_failed(&mut self, call: Call) -> ReadEnd
         ensures failed { result ≡ ReadEnd.Failed }
-        ensures noted { self.new ≡ record self.old { last = Some call; faults = number_after self.old.faults } }
+        ensures noted { self.new
+            ≡ record self.old { last = Some call; faults = number_after self.old.faults } }
         ensures count { self.old.faults ≤ self.new.faults }
     {
         self.last = Some(call);
@@ -131,7 +133,8 @@ fn sorted_below(
     dir: &Text,
     most: u32,
 ) -> Result<Vec<Text>, ReadEnd>
-    ensures names { IfOk result (λ names. IsPermutation (names_below dir.now held.now) names.items) }
+    ensures names { IfOk result
+        (λ names. IsPermutation (names_below dir.now held.now) names.items) }
     ensures in_order { IfOk result (λ names. IsSorted (slice_cmp nat_cmp) names.items) }
     ensures below { IfOk result (λ names. AreBelow dir.now names.items) }
     ensures at_most { IfOk result (λ names. vec_len names ≤ most) }
@@ -171,7 +174,8 @@ impl Files for MemFiles {
         ensures below { IfOk result (λ names. AreBelow dir.now names.items) }
         ensures names { IfSome (held_of (mem_files_seen self.old)) (λ held. IfOk result (λ names.
             IsPermutation (names_below dir.now held) names.items)) }
-        ensures too_big { IfSome (held_of (mem_files_seen self.old)) (λ held. IsErrOf result ReadEnd.TooBig →
+        ensures too_big { IfSome (held_of (mem_files_seen self.old))
+            (λ held. IsErrOf result ReadEnd.TooBig →
             most < length (names_below dir.now held)) }
 
         // It fails exactly at a listed call and at an absent folder, and each call counts.
@@ -195,13 +199,15 @@ impl Files for MemFiles {
         ensures at_most { IfOk result (λ bytes. length bytes ≤ most) }
         ensures bytes { IfSome (held_of (mem_files_seen self.old)) (λ held. IfOk result (λ bytes.
             bytes ≡ content held name.now)) }
-        ensures too_big { IfSome (held_of (mem_files_seen self.old)) (λ held. IsErrOf result ReadEnd.TooBig →
+        ensures too_big { IfSome (held_of (mem_files_seen self.old))
+            (λ held. IsErrOf result ReadEnd.TooBig →
             most < length (content held name.now)) }
 
         // It fails exactly at a listed call and at an absent name, and each call counts.
         ensures only_listed { IsErrOf result ReadEnd.Failed → next_read self.old name.now ≡ None }
         ensures all_listed { next_read self.old name.now ≡ None → IsErr result }
-        ensures big_unlisted { IsErrOf result ReadEnd.TooBig → IsSome (next_read self.old name.now) }
+        ensures big_unlisted { IsErrOf result ReadEnd.TooBig
+            → IsSome (next_read self.old name.now) }
         ensures counted { CountsCall self.old self.new }
     {
         let listed = self.counts_listed_call();
@@ -273,7 +279,8 @@ impl Model for MemSink {
 
     ghost view = { λ s. record { taken = s.taken.items; room = s.room; most = s.most; fail = s.fail.items; calls = s.calls; faults = s.faults } };
 
-    ghost invariant = { λ s. (0 < s.most) × (length s.taken.items ≤ s.room) × (s.room ≤ vec_capacity s.taken) };
+    ghost invariant = { λ s. (0 < s.most) × (length s.taken.items ≤ s.room)
+        × (s.room ≤ vec_capacity s.taken) };
 }
 
 impl MemSink {
@@ -281,7 +288,14 @@ impl MemSink {
     /// writes numbered in `fail` fail, counted from 1. The one error is want of memory.
     pub fn new(alloc: Global, room: u64, most: u64, fail: Vec<u32>) -> Result<MemSink, AllocError>
         requires { 0 < most }
-        ensures { IfOk result (λ s. s ≡ record { taken = []; room = room; most = most; fail = fail.items; calls = 0; faults = 0 }) }
+        ensures { IfOk result (λ s. s ≡ record {
+          taken = [];
+          room = room;
+          most = most;
+          fail = fail.items;
+          calls = 0;
+          faults = 0;
+        }) }
     {
         let taken = Vec::with_capacity(alloc, room as usize)?;
         Ok(MemSink {
@@ -303,7 +317,9 @@ impl MemSink {
 
     /// Whether the write of this number is refused for a piece of this many bytes.
     fn refuses(&self, call: u64, len: usize) -> bool
-        ensures { result ≡ (is_listed self.now.fail call || (not (nat_eq len 0) && nat_eq (length self.now.taken) self.now.room)) }
+        ensures { result
+            ≡ (is_listed self.now.fail call
+            || (not (nat_eq len 0) && nat_eq (length self.now.taken) self.now.room)) }
     {
         is_listed(self.fail.as_slice(), call) || (len != 0 && self.taken.len() as u64 == self.room)
     }
@@ -311,7 +327,8 @@ impl MemSink {
     /// Takes a prefix of a piece, as much as one write and the room allow.
     fn take(&mut self, piece: &[u8]) -> u64
         ensures taken { result ≡ taken_of self.old piece.now }
-        ensures after { self.new ≡ record self.old { taken = self.old.taken ++ take result piece.now } }
+        ensures after { self.new
+            ≡ record self.old { taken = self.old.taken ++ take result piece.now } }
     {
         let left = self.room - self.taken.len() as u64;
         let count = (piece.len() as u64).min(self.most).min(left);
@@ -332,11 +349,14 @@ impl Sink for MemSink {
             × Gains (mem_sink_seen self.old) (mem_sink_seen self.new) []) }
         ensures count { (mem_sink_seen self.old).faults ≤ (mem_sink_seen self.new).faults }
         ensures sure { 0 < (mem_sink_seen self.old).room →
-            IsOk result × (IfOk result (λ n. IsSure (mem_sink_seen self.old) (mem_sink_seen self.new) n)) }
+            IsOk result × (IfOk result
+            (λ n. IsSure (mem_sink_seen self.old) (mem_sink_seen self.new) n)) }
 
         // It fails exactly at a listed write and, for a piece with bytes, at a full room.
         ensures exactly { is_err result ≡ refuses self.old piece.now }
-        ensures took { IfOk result (λ n. (n ≡ taken_of self.old piece.now) × (self.new ≡ sink_after self.old (take n piece.now))) }
+        ensures took { IfOk result
+            (λ n. (n ≡ taken_of self.old piece.now)
+            × (self.new ≡ sink_after self.old (take n piece.now))) }
         ensures refused { OnErr result (self.new ≡ sink_refused self.old) }
     {
         self.calls = self.calls.saturating_add(1);

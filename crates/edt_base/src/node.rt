@@ -124,8 +124,8 @@ impl NodeRec {
     }
 
     /// The value of the property of this name; None exactly where the node has no such property.
-    /// Goes over the properties; of a node of a tree `Tree::prop` tells it in logarithmic time. Takes
-    /// no memory.
+    /// Goes over the properties; of a node of a tree `Tree::prop` tells it in logarithmic time.
+    /// Takes no memory.
     pub fn prop(&self, name: &str) -> Option<&PropVal>
         ensures { option_map (λ v. v.now) result ≡ prop_of name.now self.now.props }
     {
@@ -160,8 +160,8 @@ impl NodeRec {
         }
     }
 
-    /// The node's phandle: the number of its property `phandle`, where that is one cell, whose parts are
-    /// all of cells. Takes no memory.
+    /// The node's phandle: the number of its property `phandle`, where that is one cell, whose
+    /// parts are all of cells. Takes no memory.
     pub fn phandle(&self) -> Option<u32>
         ensures { result ≡ phandle_of self.now }
     {
@@ -214,7 +214,8 @@ fn cell_in(parts: &[Part]) -> Option<u32>
 // too many.
 fn fill(cell: &mut [u8; 4], filled: usize, bytes: &[u8]) -> Option<usize>
     requires { filled ≤ 4 }
-    ensures fits { IfSome result (λ n. (n ≤ 4) × (take n cell.new ≡ take filled cell.old ++ bytes.now)) }
+    ensures fits { IfSome result
+        (λ n. (n ≤ 4) × (take n cell.new ≡ take filled cell.old ++ bytes.now)) }
     ensures full { IfNone result (4 < filled + length bytes.now) }
 {
     let mut end = filled;

@@ -59,9 +59,9 @@ pub struct WriteFailed;
 pub trait Files {
     ghost seen: { Self → FilesSeen };
 
-    /// The names of the binding files below a folder, folders in it included: those that end `.yaml`
-    /// or `.yml`, each beginning with the folder's name and `/`, in byte order. Fails as `FailsAs`
-    /// says; `TooBig` where more than `most` names were met.
+    /// The names of the binding files below a folder, folders in it included: those that end
+    /// `.yaml` or `.yml`, each beginning with the folder's name and `/`, in byte order. Fails as
+    /// `FailsAs` says; `TooBig` where more than `most` names were met.
     fn list(&mut self, alloc: Global, dir: &Text, most: u32) -> Result<Vec<Text>, ReadEnd>
         ensures fails { FailsAs (call.List dir.now) (seen self.old) (seen self.new) result }
         ensures count { (seen self.old).faults ≤ (seen self.new).faults }
@@ -74,7 +74,8 @@ pub trait Files {
         ensures too_big { IfSome (held_of (seen self.old)) (λ held. IsErrOf result ReadEnd.TooBig →
             most < length (names_below dir.now held)) };
 
-    /// The bytes of a file. Fails as `FailsAs` says; `TooBig` where more than `most` bytes were met.
+    /// The bytes of a file. Fails as `FailsAs` says; `TooBig` where more than `most` bytes were
+    /// met.
     fn read(&mut self, alloc: Global, name: &Text, most: u64) -> Result<Bytes, ReadEnd>
         ensures fails { FailsAs (call.Read name.now) (seen self.old) (seen self.new) result }
         ensures count { (seen self.old).faults ≤ (seen self.new).faults }
@@ -91,8 +92,8 @@ pub trait Files {
 pub trait Sink {
     ghost seen: { Self → SinkSeen };
 
-    /// Takes a prefix of the piece, at least one byte of a piece that isn't empty, and says how many
-    /// bytes it took. After `WriteFailed` the bytes so far are as before.
+    /// Takes a prefix of the piece, at least one byte of a piece that isn't empty, and says how
+    /// many bytes it took. After `WriteFailed` the bytes so far are as before.
     fn write(&mut self, piece: &[u8]) -> Result<u64, WriteFailed>
         ensures taken { IfOk result (λ n. (n ≤ length piece.now) × (0 < length piece.now → 0 < n)
             × Gains (seen self.old) (seen self.new) (take n piece.now)) }
@@ -121,8 +122,8 @@ pub fn is_binding_below(dir: &Text, name: &Text) -> bool
     is_below(dir, name) && (bytes.ends_with(b".yaml") || bytes.ends_with(b".yml"))
 }
 
-/// Writes a text, piece by piece as the sink takes it. With `WriteFailed` a prefix of it was written.
-/// Takes no memory.
+/// Writes a text, piece by piece as the sink takes it. With `WriteFailed` a prefix of it was
+/// written. Takes no memory.
 pub fn write_text<S: Sink>(out: &mut S, text: &[u8]) -> Result<(), WriteFailed>
     ensures { Wrote (S.seen out.old) (S.seen out.new) text.now (is_ok result) }
 {

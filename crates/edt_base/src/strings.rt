@@ -58,8 +58,8 @@ impl PropVal {
     }
 }
 
-/// Whether a value that names entries, as `reg-names` does, names so many: there is none, or it is one
-/// or more strings, as many as the entries. Takes no memory.
+/// Whether a value that names entries, as `reg-names` does, names so many: there is none, or it is
+/// one or more strings, as many as the entries. Takes no memory.
 pub fn names_fit(count: usize, names: Option<&PropVal>) -> bool
     ensures { result ≡ names_fit count (option_map (λ n. n.now) names.entry) }
 {
@@ -76,7 +76,8 @@ pub fn entry_name(
     names: Option<&PropVal>,
     at: usize,
 ) -> Result<Option<Text>, AllocError>
-    ensures { IfOk result (λ name. name ≡ entry_name (name_parts (option_map (λ n. n.now) names.entry)) at) }
+    ensures { IfOk result
+        (λ name. name ≡ entry_name (name_parts (option_map (λ n. n.now) names.entry)) at) }
 {
     match name_parts(names).get(at) {
         Some(part) => text_of(alloc, part),

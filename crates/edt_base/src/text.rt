@@ -13,8 +13,8 @@ use std::cmp::Ordering;
 use std::hash::{Hash, Hasher};
 use std::marker::Model;
 
-/// A text in UTF-8. Contracts see its bytes; two texts are equal where their bytes are, and stand in
-/// the order of these bytes.
+/// A text in UTF-8. Contracts see its bytes; two texts are equal where their bytes are, and stand
+/// in the order of these bytes.
 #[derive(Debug, Drop)]
 pub struct Text {
     inner: String,

@@ -10,8 +10,8 @@ use crate::{NodeId, NodeRec, PropVal, Text};
 use std::alloc::{AllocError, Global};
 use std::marker::Model;
 
-/// A devicetree. Contracts see its nodes, aliases and chosen nodes as the plain `TreeData`, and every
-/// tree is well formed, as `IsWellFormed` says field by field.
+/// A devicetree. Contracts see its nodes, aliases and chosen nodes as the plain `TreeData`, and
+/// every tree is well formed, as `IsWellFormed` says field by field.
 #[derive(Drop)]
 pub struct Tree {
     nodes: Vec<NodeRec>,
@@ -43,7 +43,11 @@ impl Tree {
         chosen: Vec<(Text, NodeId)>,
     ) -> Result<Tree, AllocError>
         requires { IsWellFormed (record { nodes = nodes.items; aliases = aliases.items; chosen = chosen.items }) }
-        ensures { IfOk result (λ t. t ≡ record { nodes = nodes.items; aliases = aliases.items; chosen = chosen.items }) }
+        ensures { IfOk result (λ t. t ≡ record {
+          nodes = nodes.items;
+          aliases = aliases.items;
+          chosen = chosen.items;
+        }) }
     {
         let index = Index::new(alloc, nodes.as_slice())?;
         Ok(Tree {
@@ -113,8 +117,8 @@ impl Tree {
         self.node(id).children()
     }
 
-    /// Whether a node is okay: its status is `okay`, which an absent one and `ok` count as too. None past
-    /// the nodes is. Takes no memory.
+    /// Whether a node is okay: its status is `okay`, which an absent one and `ok` count as too.
+    /// None past the nodes is. Takes no memory.
     pub fn is_okay(&self, id: NodeId) -> bool
         ensures { result ≡ is_okay self.now.nodes id }
     {
@@ -154,9 +158,9 @@ impl Tree {
         count
     }
 
-    /// The value of a node's property of this name; None exactly where the node has no such property.
-    /// The node's place must be below the number of nodes. Logarithmic in the number of the node's
-    /// properties; takes no memory.
+    /// The value of a node's property of this name; None exactly where the node has no such
+    /// property. The node's place must be below the number of nodes. Logarithmic in the number of
+    /// the node's properties; takes no memory.
     pub fn prop(&self, id: NodeId, name: &str) -> Option<&PropVal>
         requires { id < length self.now.nodes }
         ensures { option_map (λ v. v.now) result ≡ prop_at self.now.nodes id name.now }
@@ -164,8 +168,8 @@ impl Tree {
         self.index.prop(self.nodes.as_slice(), id, name)
     }
 
-    /// The node of this path; None exactly where no node has it. Logarithmic in the number of nodes;
-    /// takes no memory.
+    /// The node of this path; None exactly where no node has it. Logarithmic in the number of
+    /// nodes; takes no memory.
     pub fn find(&self, path: &Text) -> Option<NodeId>
         ensures { result ≡ position (has_path path.now) self.now.nodes }
     {

@@ -6,8 +6,6 @@ mod entry;
 mod header;
 mod length;
 mod line;
-#[cfg(test)]
-mod tests;
 mod text;
 
 pub use header::{emit, emit_fact};

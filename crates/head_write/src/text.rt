@@ -2,7 +2,7 @@
 
 ghost use Rattle.std.specs.Prelude.{is_ok, ◌≡◌, ◌≤◌, length, option_to_list};
 ghost use Rattle.std.specs.List.{flat_map};
-ghost use Rattle.edt_base.specs.Marks.{form_byte, form_char, form_of};
+ghost use Rattle.edt_base.specs.Forms.{form_byte, form_char, form_of};
 ghost use Rattle.dt_names.specs.Pieces.{escaped, quoted, spell, spells};
 ghost use Rattle.dt_names.specs.Words.{piece_of};
 ghost use Rattle.head_write.specs.Put.{Put};
@@ -48,7 +48,7 @@ pub(crate) fn put_piece<S: Sink>(
     }
 }
 
-#[tactic(auto, unfolding(edt_base::specs::Marks::form_of))]
+#[tactic(auto, unfolding(edt_base::specs::Forms::form_of))]
 // Puts the form of a text, a chunk at a time.
 fn put_form<S: Sink>(out: &mut S, block: &mut Block, text: &[u8]) -> Result<(), WriteFailed>
     ensures { Put (S.seen out.old) (S.seen out.new) block.old block.new (form_of text.now) (is_ok result) }
@@ -63,7 +63,7 @@ fn put_form<S: Sink>(out: &mut S, block: &mut Block, text: &[u8]) -> Result<(), 
 }
 
 #[inline(always)]
-#[tactic(auto, unfolding(edt_base::specs::Marks::form_of))]
+#[tactic(auto, unfolding(edt_base::specs::Forms::form_of))]
 // The form of a chunk of a text.
 fn chunk_form(chunk: &[u8]) -> ArrayVec<u8, 64>
     requires { length chunk.now ≤ 64 }

@@ -1,11 +1,8 @@
 -- Entries, one at a time.
 use Rattle.std.proofs.Common.{◌≡◌, ◌∙◌, ◌-◌, ◌<◌, ◌++◌, ◌∷◌, [], ℕ, zero, suc, Bool, true, false, List, Some, None, length, drop, if◌then◌else◌, refl, sym, ap, subst, arith, append_assoc, length-drop}
-use Rattle.std.specs.Str.{IsUtf8, is_utf8}
-use Rattle.std.proofs.lemmas.Str.{IsUtf8-from_is_utf8, is_utf8-from_IsUtf8}
-use Rattle.reg_ranges.specs.Cutting.{entries, entries_behind}
-use Rattle.reg_ranges.specs.Registers.{utf8_text}
+use Rattle.reg_ranges.specs.Cutting.{entries, entries_after}
 
-behind : {X : Type 0} (make : List ℕ → X) (gap skip : ℕ) (cells : List ℕ) → entries_behind make gap skip cells ≡ entries_behind make gap 0 (drop skip cells)
+behind : {X : Type 0} (make : List ℕ → X) (gap skip : ℕ) (cells : List ℕ) → entries_after make gap skip cells ≡ entries_after make gap 0 (drop skip cells)
 behind make gap zero [] = refl
 behind make gap (suc skip) [] = refl
 behind make gap zero (c ∷ cs) = refl
@@ -17,7 +14,7 @@ entries_next make zero cells some more = absurd (omega arith)
 entries_next make (suc n) [] some more = absurd (omega arith)
 entries_next make (suc n) (c ∷ cs) some more =
     let gap : n ≡ suc n - 1 = omega arith in
-    subst (λ g. entries_behind make g 0 (c ∷ cs) ≡ make (c ∷ cs) ∷ entries_behind make g 0 (drop n cs)) gap (ap (λ es. make (c ∷ cs) ∷ es) (behind make n n cs))
+    subst (λ g. entries_after make g 0 (c ∷ cs) ≡ make (c ∷ cs) ∷ entries_after make g 0 (drop n cs)) gap (ap (λ es. make (c ∷ cs) ∷ es) (behind make n n cs))
 
 pub entries_none : {X : Type 0} (make : List ℕ → X) (size : ℕ) (cells : List ℕ) → cells ≡ [] → entries make size cells ≡ []
 entries_none make size cells e = subst (λ cs. entries make size cs ≡ []) (sym e) refl
@@ -36,17 +33,3 @@ pub fewer_left : (size : ℕ) (cells rest : List ℕ) → 0 < size → 0 < lengt
 fewer_left size cells rest some more left = omega (arith, ap length left, length-drop size cells)
 
 -- ---- texts
-
-by_test : (b : Bool) (bs : List ℕ) → is_utf8 bs ≡ b → b ≡ true → Some bs ≡ (if b then Some bs else None)
-by_test true bs e h = refl
-by_test false bs e h = cc
-
-pub utf8_yes : (bs t : List ℕ) → t ≡ bs → IsUtf8 bs → Some t ≡ utf8_text bs
-utf8_yes bs t e h = ap (λ u. Some u) e ∙ by_test (is_utf8 bs) bs refl (is_utf8-from_IsUtf8 bs h)
-
-no_test : (b : Bool) (bs : List ℕ) → (b ≡ true → ⊥) → None ≡ (if b then Some bs else None)
-no_test true bs h = absurd (h refl)
-no_test false bs h = refl
-
-pub utf8_no : (bs : List ℕ) → (IsUtf8 bs → ⊥) → None ≡ utf8_text bs
-utf8_no bs h = no_test (is_utf8 bs) bs (λ e. h (IsUtf8-from_is_utf8 bs e))

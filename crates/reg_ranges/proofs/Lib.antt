@@ -1,4 +1,3 @@
 pub mod CellLaws
 pub mod EntryLaws
 pub mod TranslationLaws
-pub mod ThreeNodes

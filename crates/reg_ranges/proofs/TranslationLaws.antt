@@ -5,14 +5,16 @@ use Rattle.std.specs.Option.{option_map_or}
 use Rattle.std.proofs.lemmas.List.Elements.{All-nil, All-cons, All-head, All-tail}
 use Rattle.std.proofs.lemmas.Option.{slice_get_past}
 use Rattle.std.proofs.lemmas.Bool.{ltb-true, ltb-false, leb-true, eqb-true, and_parts, cases_lt}
-use Rattle.edt_base.specs.NodeData.{NodeData, bytes_of, prop_of}
+use Rattle.edt_base.specs.NodeData.{NodeData, bytes_of}
+use Rattle.edt_base.specs.Nodes.{prop_at}
+use Rattle.edt_base.specs.Values.{value_cells}
 use Rattle.edt_base.specs.TreeData.{parent_of, ancestors, ancestors_within}
 use Rattle.edt_base.specs.declared.node.Part.{Part}
 use Rattle.edt_base.specs.declared.bound.Range.{Range}
 use Rattle.edt_base.specs.declared.fault.Rule.{Rule}
 use Rattle.edt_base.specs.declared.fault.Rule.TheVariants as rule
-use Rattle.reg_ranges.specs.Cutting.{entries, are_whole, value_cells, parent_node}
-use Rattle.reg_ranges.specs.Ranges.{front_range, range_cells, is_beyond, ranges_cut, cut_ranges, shaped_ranges, shape_of, ranges_in, ranges_below, ranges_of}
+use Rattle.reg_ranges.specs.Cutting.{entries, are_whole}
+use Rattle.reg_ranges.specs.Ranges.{first_range, range_cells, is_beyond, ranges_cut, cut_ranges, shaped_ranges, shape_of, ranges_in, ranges_below, ranges_of}
 use Rattle.reg_ranges.specs.Translation.{fits, moved, passed, translated, when_whole, way_through, translation, AreWhole, IsWithin, IsWithinWay}
 use Rattle.reg_ranges.specs.declared.address_ranges.Shape.{Shape}
 use Rattle.reg_ranges.proofs.CellLaws.{cells_short}
@@ -95,13 +97,13 @@ some_cells k value cut more =
 -- through no ranges, and through some
 pub passed_empty : (k : Shape) (value : List Part) (a : ℕ) → IsCut k value → value_cells value ≡ [] → Some a ≡ passed (when_whole (cut_ranges k value)) a
 passed_empty k value a cut e =
-    sym (ap (λ r. passed (when_whole r) a) cut.is ∙ ap (λ rs. passed (Some rs) a) (entries_none (front_range k) (range_cells k) (value_cells value) e))
+    sym (ap (λ r. passed (when_whole r) a) cut.is ∙ ap (λ rs. passed (Some rs) a) (entries_none (first_range k) (range_cells k) (value_cells value) e))
 
 pub passed_some : (k : Shape) (value : List Part) (a : ℕ) → IsCut k value → 0 < length (value_cells value)
     → option_map (moved a) (find (fits a) (ranges_cut k value)) ≡ passed (when_whole (cut_ranges k value)) a
 passed_some k value a cut more =
-    let e : ranges_cut k value ≡ front_range k (value_cells value) ∷ entries (front_range k) (range_cells k) (drop (range_cells k) (value_cells value)) =
-    entries_next (front_range k) (range_cells k) (value_cells value) (some_cells k value cut more) more in
+    let e : ranges_cut k value ≡ first_range k (value_cells value) ∷ entries (first_range k) (range_cells k) (drop (range_cells k) (value_cells value)) =
+    entries_next (first_range k) (range_cells k) (value_cells value) (some_cells k value cut more) more in
     ap (λ rs. option_map (moved a) (find (fits a) rs)) e ∙ sym (ap (λ r. passed (when_whole r) a) cut.is ∙ ap (λ rs. passed (Some rs) a) e)
 
 -- ---- one node after another
@@ -198,25 +200,24 @@ shaped_within : (k : Option Shape) (value : List Part) → IsWithinWay (when_who
 shaped_within None value = tt
 shaped_within (Some k) value = cut_within k value (cut_ranges k value) refl
 
-in_within : (parent n : NodeData) (value : Option (List Part)) → IsWithinWay (option_and_then when_whole (ranges_in parent n value))
-in_within parent n None = tt
-in_within parent n (Some value) = shaped_within (shape_of parent n) value
+in_within : (nodes : List NodeData) (up id : ℕ) (value : Option (List Part)) → IsWithinWay (option_and_then when_whole (ranges_in nodes up id value))
+in_within nodes up id None = tt
+in_within nodes up id (Some value) = shaped_within (shape_of nodes up id) value
 
-node_within : (parent node : Option NodeData) → IsWithinWay (option_and_then when_whole (option_and_then (ranges_below parent) node))
-node_within parent None = tt
-node_within None (Some n) = tt
-node_within (Some p) (Some n) = in_within p n (prop_of (codes "ranges") n.props)
+below_within : (nodes : List NodeData) (parent : Option ℕ) (id : ℕ) → IsWithinWay (option_and_then when_whole (ranges_below nodes parent id))
+below_within nodes None id = tt
+below_within nodes (Some up) id = in_within nodes up id (prop_at nodes id (codes "ranges"))
 
 ways_within : (nodes : List NodeData) (ids : List ℕ) → All IsWithinWay (map (way_through nodes) ids)
 ways_within nodes [] = All-nil IsWithinWay
 ways_within nodes (id ∷ ids) =
-    All-cons IsWithinWay (way_through nodes id) (map (way_through nodes) ids) (node_within (parent_node nodes id) (slice_get nodes id)) (ways_within nodes ids)
+    All-cons IsWithinWay (way_through nodes id) (map (way_through nodes) ids) (below_within nodes (parent_of nodes id) id) (ways_within nodes ids)
 
 pub translation_below : (nodes : List NodeData) (id a : ℕ) → a < 2 ^ 128 → translation nodes id a < 2 ^ 128
 translation_below nodes id a below = translated_below (map (way_through nodes) (ancestors nodes id)) a (ways_within nodes (ancestors nodes id)) below
 
 -- nodes that are not there have no ranges at fault
-past_whole : (nodes : List NodeData) (id : ℕ) (o : Option NodeData) → o ≡ None → IsOk (unwrap_or (option_and_then (ranges_below (parent_node nodes id)) o) (Ok []))
+past_whole : (nodes : List NodeData) (id : ℕ) (o : Option NodeData) → o ≡ None → IsOk (unwrap_or (ranges_below nodes (option_and_then (λ (n : NodeData). n.parent) o) id) (Ok []))
 past_whole nodes id None e = refl
 past_whole nodes id (Some n) e = cc
 

@@ -2,4 +2,3 @@ pub mod Cutting
 pub mod Ranges
 pub mod Registers
 pub mod Translation
-pub mod ThreeNodes

@@ -1,16 +1,18 @@
 //! The ranges of a node.
 
-ghost use Rattle.std.specs.Prelude.{◌≡◌, ◌+◌, ◌*◌, ◌^◌, ◌≤◌, ◌<◌, [], true, false, IfOk, IfErr, IfSome, Ok, length, take, drop, option_map, unwrap_or, nat_lt};
+ghost use Rattle.std.specs.Prelude.{◌≡◌, ◌+◌, ◌*◌, ◌^◌, ◌≤◌, ◌<◌, [], IfOk, IfErr, IfSome, Ok, length, drop, option_map, unwrap_or, nat_lt};
 ghost use Rattle.std.specs.List.{list_any};
 ghost use Rattle.edt_base.specs.Cells.{cells_of};
 ghost use Rattle.edt_base.specs.NodeData.{bytes_of};
-ghost use Rattle.reg_ranges.specs.Cutting.{entries, are_whole, value_cells, IsStop, IsRefused, path_of};
-ghost use Rattle.reg_ranges.specs.Ranges.{front_range, range_cells, is_beyond, ranges_cut, cut_ranges, shape_by, shape_of, shaped_ranges, ranges_below, ranges_of, IsSmall};
+ghost use Rattle.edt_base.specs.Nodes.{path_at, prop_at};
+ghost use Rattle.edt_base.specs.Refusals.{IsRefused, IsStop};
+ghost use Rattle.edt_base.specs.Values.{value_cells};
+ghost use Rattle.reg_ranges.specs.Cutting.{entries, are_whole};
+ghost use Rattle.reg_ranges.specs.Ranges.{first_range, range_cells, is_beyond, ranges_cut, cut_ranges, shape_by, shape_of, shaped_ranges, ranges_below, ranges_of, IsSmall};
 
-use crate::cells::{Cells, is_whole};
-use crate::nodes::{address_cells, parent_of, size_cells, told};
-use crate::stop::Stop;
-use edt_base::{End, NodeId, NodeRec, Part, Range, Rule, Tree};
+use crate::cells::{is_whole, number};
+use crate::nodes::{address_cells, size_cells};
+use edt_base::{Cells, End, NodeId, Part, Range, Rule, Stop, Tree};
 use std::alloc::{AllocError, Global};
 
 /// How many cells the numbers of a range have.
@@ -32,35 +34,43 @@ pub(crate) struct Shape {
 pub fn ranges(alloc: Global, t: &Tree, id: NodeId) -> Result<Vec<Range>, End>
     requires { id < length t.now.nodes }
     ensures cut { IfOk result (λ v. ranges_of t.now.nodes id ≡ Ok v.items) }
-    ensures refused { IfErr result (λ e. IfSome (path_of t.now.nodes id) (λ path. IsRefused (ranges_of t.now.nodes id) path e)) }
+    ensures refused { IfErr result (IsRefused (ranges_of t.now.nodes id) (path_at t.now.nodes id)) }
 {
-    let node = t.node(id);
-    match ranges_below(alloc, parent_of(t, id), node) {
+    match ranges_below(alloc, t, t.parent(id), id) {
         Ok(ranges) => Ok(ranges),
-        Err(stop) => Err(told(alloc, node, stop)),
+        Err(stop) => Err(t.node(id).told(alloc, stop)),
     }
 }
 
 // The ranges of a node with this parent.
-fn ranges_below(alloc: Global, parent: Option<&NodeRec>, node: &NodeRec) -> Result<Vec<Range>, Stop>
-    ensures cut { IfOk result (λ v. unwrap_or (ranges_below (option_map (λ n. n.now) parent.entry) node.now) (Ok []) ≡ Ok v.items) }
-    ensures stop { IfErr result (IsStop (unwrap_or (ranges_below (option_map (λ n. n.now) parent.entry) node.now) (Ok []))) }
+fn ranges_below(
+    alloc: Global,
+    t: &Tree,
+    parent: Option<NodeId>,
+    id: NodeId,
+) -> Result<Vec<Range>, Stop>
+    requires there { id < length t.now.nodes }
+    requires parent { IfSome parent (λ up. up < length t.now.nodes) }
+    ensures cut { IfOk result (λ v. unwrap_or (ranges_below t.now.nodes parent id) (Ok []) ≡ Ok v.items) }
+    ensures stop { IfErr result (IsStop (unwrap_or (ranges_below t.now.nodes parent id) (Ok []))) }
 {
-    let Some(parent) = parent else {
+    let Some(up) = parent else {
         return Ok(Vec::new(alloc));
     };
-    let Some(value) = node.prop("ranges") else {
+    let Some(value) = t.prop(id, "ranges") else {
         return Ok(Vec::new(alloc));
     };
-    shaped_ranges(alloc, shape_of(parent, node), value.parts.as_slice())
+    shaped_ranges(alloc, shape_of(t, up, id), value.parts.as_slice())
 }
 
 // The counts of cells of a node's ranges; `None` where one of them is wrong.
-pub(crate) fn shape_of(parent: &NodeRec, node: &NodeRec) -> Option<Shape>
-    ensures shape { result ≡ shape_of parent.now node.now }
+pub(crate) fn shape_of(t: &Tree, up: NodeId, id: NodeId) -> Option<Shape>
+    requires up { up < length t.now.nodes }
+    requires there { id < length t.now.nodes }
+    ensures shape { result ≡ shape_of t.now.nodes up id }
     ensures small { IfSome result IsSmall }
 {
-    shape_by(address_cells(node), address_cells(parent), size_cells(node))
+    shape_by(address_cells(t, id), address_cells(t, up), size_cells(t, id))
 }
 
 fn shape_by(child: Option<usize>, parent: Option<usize>, len: Option<usize>) -> Option<Shape>
@@ -117,25 +127,25 @@ pub(crate) fn range_cells(shape: Shape) -> usize
 fn ranges_cut(alloc: Global, cells: Cells<'_>, shape: Shape) -> Result<Vec<Range>, AllocError>
     requires small { IsSmall shape }
     requires some { 0 < range_cells shape }
-    ensures { IfOk result (λ v. v.items ≡ entries (front_range shape) (range_cells shape) (cells_of cells.entry)) }
+    ensures { IfOk result (λ v. v.items ≡ entries (first_range shape) (range_cells shape) (cells_of cells.entry)) }
 {
     let mut cells = cells;
     let mut ranges = Vec::new(alloc);
     while !cells.is_empty() {
-        ranges.push(front_range(&mut cells, shape))?;
+        ranges.push(first_range(&mut cells, shape))?;
     }
     Ok(ranges)
 }
 
-/// The range at the front.
-pub(crate) fn front_range(cells: &mut Cells<'_>, shape: Shape) -> Range
+/// The first range of cells.
+pub(crate) fn first_range(cells: &mut Cells<'_>, shape: Shape) -> Range
     requires { IsSmall shape }
-    ensures range { result ≡ front_range shape (cells_of cells.old) }
+    ensures range { result ≡ first_range shape (cells_of cells.old) }
     ensures rest { cells_of cells.new ≡ drop (range_cells shape) (cells_of cells.old) }
 {
-    let child = cells.number(shape.child);
-    let parent = cells.number(shape.parent);
-    let len = cells.number(shape.len);
+    let child = number(cells, shape.child);
+    let parent = number(cells, shape.parent);
+    let len = number(cells, shape.len);
     Range { child, parent, len }
 }
 

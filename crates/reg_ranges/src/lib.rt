@@ -6,11 +6,6 @@ mod cells;
 mod laws;
 mod nodes;
 mod registers;
-mod stop;
-#[cfg(test)]
-mod tests;
-#[cfg(test)]
-mod three_nodes;
 mod translation;
 
 pub use address_ranges::ranges;

@@ -1,16 +1,18 @@
 //! The registers of a node.
 
-ghost use Rattle.std.specs.Prelude.{◌≡◌, ◌+◌, ◌≤◌, ◌<◌, [], true, IfOk, IfErr, IfSome, Ok, Some, length, take, drop, option_map, unwrap_or, slice_get, nat_eq};
-ghost use Rattle.std.specs.List.{list_all, list_any, prefix_len};
+ghost use Rattle.std.specs.Prelude.{◌≡◌, ◌+◌, ◌≤◌, ◌<◌, IfOk, IfErr, IfSome, Ok, length, drop, option_map};
+ghost use Rattle.std.specs.List.{list_any};
 ghost use Rattle.edt_base.specs.Cells.{cells_of};
 ghost use Rattle.edt_base.specs.NodeData.{bytes_of};
-ghost use Rattle.reg_ranges.specs.Cutting.{entries, IsStop, IsRefused, path_of};
-ghost use Rattle.reg_ranges.specs.Registers.{front_cut, is_empty_cut, is_text, is_no_zero, utf8_text, zero_ended, string_of, names_fit, name_parts, name_at, is_string, with_names, named_regs, cut_regs, counted_regs, regs_below, regs_of};
+ghost use Rattle.edt_base.specs.Nodes.{path_at, prop_at};
+ghost use Rattle.edt_base.specs.Refusals.{IsRefused, IsStop};
+ghost use Rattle.edt_base.specs.Values.{names_fit, name_parts};
+ghost use Rattle.reg_ranges.specs.Cutting.{entries};
+ghost use Rattle.reg_ranges.specs.Registers.{first_cut, is_empty_cut, with_names, named_regs, cut_regs, counted_regs, regs_below, regs_of};
 
-use crate::cells::{Cells, is_whole};
-use crate::nodes::{address_cells, parent_of, size_cells, told};
-use crate::stop::Stop;
-use edt_base::{End, Kind, NodeId, NodeRec, Part, PropVal, Reg, Rule, Text, Tree};
+use crate::cells::{is_whole, some_number};
+use crate::nodes::{address_cells, size_cells};
+use edt_base::{Cells, End, NodeId, Part, PropVal, Reg, Rule, Stop, Tree, entry_name, names_fit};
 use std::alloc::{AllocError, Global};
 
 /// A register as `reg` gives it, without a name.
@@ -31,32 +33,38 @@ pub(crate) struct Cut {
 pub fn regs(alloc: Global, t: &Tree, id: NodeId) -> Result<Vec<Reg>, End>
     requires { id < length t.now.nodes }
     ensures cut { IfOk result (λ v. regs_of t.now.nodes id ≡ Ok v.items) }
-    ensures refused { IfErr result (λ e. IfSome (path_of t.now.nodes id) (λ path. IsRefused (regs_of t.now.nodes id) path e)) }
+    ensures refused { IfErr result (IsRefused (regs_of t.now.nodes id) (path_at t.now.nodes id)) }
 {
-    let node = t.node(id);
-    match regs_below(alloc, parent_of(t, id), node) {
+    match regs_below(alloc, t, t.parent(id), id) {
         Ok(regs) => Ok(regs),
-        Err(stop) => Err(told(alloc, node, stop)),
+        Err(stop) => Err(t.node(id).told(alloc, stop)),
     }
 }
 
 // The registers of a node with this parent.
-fn regs_below(alloc: Global, parent: Option<&NodeRec>, node: &NodeRec) -> Result<Vec<Reg>, Stop>
-    ensures cut { IfOk result (λ v. regs_below (option_map (λ n. n.now) parent.entry) node.now ≡ Ok v.items) }
-    ensures stop { IfErr result (IsStop (regs_below (option_map (λ n. n.now) parent.entry) node.now)) }
+fn regs_below(
+    alloc: Global,
+    t: &Tree,
+    parent: Option<NodeId>,
+    id: NodeId,
+) -> Result<Vec<Reg>, Stop>
+    requires there { id < length t.now.nodes }
+    requires parent { IfSome parent (λ up. up < length t.now.nodes) }
+    ensures cut { IfOk result (λ v. regs_below t.now.nodes parent id ≡ Ok v.items) }
+    ensures stop { IfErr result (IsStop (regs_below t.now.nodes parent id)) }
 {
-    let Some(parent) = parent else {
+    let Some(up) = parent else {
         return Ok(Vec::new(alloc));
     };
-    let Some(value) = node.prop("reg") else {
+    let Some(value) = t.prop(id, "reg") else {
         return Ok(Vec::new(alloc));
     };
     counted_regs(
         alloc,
-        address_cells(parent),
-        size_cells(parent),
+        address_cells(t, up),
+        size_cells(t, up),
         value.parts.as_slice(),
-        node.prop("reg-names"),
+        t.prop(id, "reg-names"),
     )
 }
 
@@ -109,25 +117,25 @@ fn cuts_of(
     requires address { address ≤ 4 }
     requires size { size ≤ 4 }
     requires some { 0 < address + size }
-    ensures { IfOk result (λ v. v.items ≡ entries (front_cut address size) (address + size) (cells_of cells.entry)) }
+    ensures { IfOk result (λ v. v.items ≡ entries (first_cut address size) (address + size) (cells_of cells.entry)) }
 {
     let mut cells = cells;
     let mut cuts = Vec::new(alloc);
     while !cells.is_empty() {
-        cuts.push(front_cut(&mut cells, address, size))?;
+        cuts.push(first_cut(&mut cells, address, size))?;
     }
     Ok(cuts)
 }
 
-// The register at the front.
-fn front_cut(cells: &mut Cells<'_>, address: usize, size: usize) -> Cut
+// The first register of cells.
+fn first_cut(cells: &mut Cells<'_>, address: usize, size: usize) -> Cut
     requires address { address ≤ 4 }
     requires size { size ≤ 4 }
-    ensures cut { result ≡ front_cut address size (cells_of cells.old) }
+    ensures cut { result ≡ first_cut address size (cells_of cells.old) }
     ensures rest { cells_of cells.new ≡ drop (address + size) (cells_of cells.old) }
 {
-    let addr = cells.some_number(address);
-    let size = cells.some_number(size);
+    let addr = some_number(cells, address);
+    let size = some_number(cells, size);
     Cut { addr, size }
 }
 
@@ -142,7 +150,7 @@ fn named_regs(alloc: Global, cuts: &[Cut], names: Option<&PropVal>) -> Result<Ve
     if !names_fit(cuts.len(), names) {
         return Err(Stop::Broken(Rule::V18));
     }
-    let regs = with_names(alloc, cuts, name_parts(names))?;
+    let regs = with_names(alloc, cuts, names)?;
     Ok(regs)
 }
 
@@ -161,119 +169,20 @@ fn is_empty_cut(cut: Cut) -> bool
     }
 }
 
-// Whether the names, where there are some, are as many strings as the entries.
-fn names_fit(count: usize, names: Option<&PropVal>) -> bool
-    ensures { result ≡ names_fit count (option_map (λ n. n.now) names.entry) }
-{
-    match names {
-        None => true,
-        Some(names) => are_strings(count, names.parts.as_slice()),
-    }
-}
-
-fn are_strings(count: usize, parts: &[Part]) -> bool
-    ensures { result ≡ names_fit count (Some parts.now) }
-{
-    !parts.is_empty() && parts.len() == count && all_strings(parts)
-}
-
-fn all_strings(parts: &[Part]) -> bool
-    ensures { result ≡ list_all is_string parts.now }
-{
-    parts.iter().all(|part| is_string(part))
-}
-
-fn is_string(part: &Part) -> bool
-    ensures { result ≡ is_string part.now }
-{
-    string_of(part).is_some()
-}
-
-fn name_parts<'a>(names: Option<&'a PropVal>) -> &'a [Part]
-    ensures { result.now ≡ name_parts (option_map (λ n. n.now) names.entry) }
-{
-    match names {
-        Some(names) => names.parts.as_slice(),
-        None => &[],
-    }
-}
-
-fn with_names(alloc: Global, cuts: &[Cut], parts: &[Part]) -> Result<Vec<Reg>, AllocError>
-    ensures { IfOk result (λ v. v.items ≡ with_names 0 cuts.now parts.now) }
+fn with_names(
+    alloc: Global,
+    cuts: &[Cut],
+    names: Option<&PropVal>,
+) -> Result<Vec<Reg>, AllocError>
+    ensures { IfOk result (λ v. v.items ≡ with_names 0 cuts.now (name_parts (option_map (λ n. n.now) names.entry))) }
 {
     let mut regs = Vec::with_capacity(alloc, cuts.len())?;
     for (at, cut) in cuts.iter().enumerate() {
         regs.push(Reg {
             addr: cut.addr,
             size: cut.size,
-            name: name_at(alloc, parts, at)?,
+            name: entry_name(alloc, names, at)?,
         })?;
     }
     Ok(regs)
-}
-
-// The name at a place.
-fn name_at(alloc: Global, parts: &[Part], at: usize) -> Result<Option<Text>, AllocError>
-    ensures { IfOk result (λ name. name ≡ name_at parts.now at) }
-{
-    match parts.get(at) {
-        Some(part) => text_of(alloc, part),
-        None => Ok(None),
-    }
-}
-
-// The string of a part, as a text.
-fn text_of(alloc: Global, part: &Part) -> Result<Option<Text>, AllocError>
-    ensures { IfOk result (λ text. text ≡ string_of part.now) }
-{
-    match string_of(part) {
-        Some(string) => Ok(Some(Text::new(String::from_str(alloc, string)?))),
-        None => Ok(None),
-    }
-}
-
-// The string that a part is.
-fn string_of(part: &Part) -> Option<&str>
-    ensures { option_map (λ s. s.now) result ≡ string_of part.now }
-{
-    if is_text(part.kind) {
-        zero_ended(part.bytes.as_slice())
-    } else {
-        None
-    }
-}
-
-fn is_text(kind: Kind) -> bool
-    ensures { result ≡ is_text kind }
-{
-    matches!(kind, Kind::Str)
-}
-
-// The text before the first zero, where that is the last byte.
-fn zero_ended(bytes: &[u8]) -> Option<&str>
-    ensures { option_map (λ s. s.now) result ≡ zero_ended bytes.now }
-{
-    let front = no_zero_front(bytes);
-    if front + 1 == bytes.len() {
-        let (text, _) = bytes.split_at(front);
-        utf8_text(text)
-    } else {
-        None
-    }
-}
-
-fn no_zero_front(bytes: &[u8]) -> usize
-    ensures value { result ≡ prefix_len is_no_zero bytes.now }
-    ensures bound { result ≤ length bytes.now }
-{
-    bytes.iter().take_while(|byte| **byte != 0).count()
-}
-
-fn utf8_text(bytes: &[u8]) -> Option<&str>
-    ensures { option_map (λ s. s.now) result ≡ utf8_text bytes.now }
-{
-    match str::from_utf8(bytes) {
-        Ok(text) => Some(text),
-        Err(_) => None,
-    }
 }

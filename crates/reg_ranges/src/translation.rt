@@ -4,15 +4,15 @@ ghost use Rattle.std.specs.Prelude.{◌≡◌, ◌+◌, ◌-◌, ◌*◌, ◌^�
 ghost use Rattle.std.specs.List.{find};
 ghost use Rattle.edt_base.specs.Cells.{cells_of};
 ghost use Rattle.edt_base.specs.NodeData.{bytes_of};
-ghost use Rattle.edt_base.specs.TreeData.{ancestors, ancestors_within};
+ghost use Rattle.edt_base.specs.Nodes.{prop_at};
+ghost use Rattle.edt_base.specs.TreeData.{ancestors, ancestors_within, parent_of};
+ghost use Rattle.edt_base.specs.Values.{value_cells};
 ghost use Rattle.reg_ranges.specs.Cutting.{entries};
-ghost use Rattle.reg_ranges.specs.Ranges.{front_range, range_cells, ranges_cut, cut_ranges, shaped_ranges, ranges_below, ranges_of, IsSmall};
+ghost use Rattle.reg_ranges.specs.Ranges.{first_range, range_cells, ranges_cut, cut_ranges, shaped_ranges, ranges_below, ranges_of, IsSmall};
 ghost use Rattle.reg_ranges.specs.Translation.{fits, moved, passed, passed_by, when_whole, way_through, translated, translation, AreWhole, IsWithin};
 
-use crate::address_ranges::{Shape, front_range, range_cells, shape_of};
-use crate::cells::Cells;
-use crate::nodes::{parent_id, parent_of};
-use edt_base::{NodeId, NodeRec, Part, Range, Tree};
+use crate::address_ranges::{Shape, first_range, range_cells, shape_of};
+use edt_base::{Cells, NodeId, Part, Range, Tree};
 
 // Whether an address is one of a range's child addresses, without the range's end.
 fn fits(address: u128, range: Range) -> bool
@@ -34,12 +34,12 @@ fn moved(address: u128, range: Range) -> u128
 fn first_fit(cells: Cells<'_>, shape: Shape, address: u128) -> Option<u128>
     requires small { IsSmall shape }
     requires some { 0 < range_cells shape }
-    requires within { All IsWithin (entries (front_range shape) (range_cells shape) (cells_of cells)) }
-    ensures { result ≡ option_map (moved address) (find (fits address) (entries (front_range shape) (range_cells shape) (cells_of cells.entry))) }
+    requires within { All IsWithin (entries (first_range shape) (range_cells shape) (cells_of cells)) }
+    ensures { result ≡ option_map (moved address) (find (fits address) (entries (first_range shape) (range_cells shape) (cells_of cells.entry))) }
 {
     let mut cells = cells;
     while !cells.is_empty() {
-        let range = front_range(&mut cells, shape);
+        let range = first_range(&mut cells, shape);
         if fits(address, range) {
             return Some(moved(address, range));
         }
@@ -72,17 +72,19 @@ fn pass_shaped(shape: Option<Shape>, value: &[Part], address: u128) -> Option<u1
 }
 
 // Through a node with this parent. `None` where translation stops there.
-fn pass_below(parent: Option<&NodeRec>, node: &NodeRec, address: u128) -> Option<u128>
-    requires whole { IsOk (unwrap_or (ranges_below (option_map (λ n. n.now) parent) node.now) (Ok [])) }
-    ensures { result ≡ passed_by (ranges_below (option_map (λ n. n.now) parent.entry) node.now) address }
+fn pass_below(t: &Tree, parent: Option<NodeId>, id: NodeId, address: u128) -> Option<u128>
+    requires there { id < length t.now.nodes }
+    requires parent { IfSome parent (λ up. up < length t.now.nodes) }
+    requires whole { IsOk (unwrap_or (ranges_below t.now.nodes parent id) (Ok [])) }
+    ensures { result ≡ passed_by (ranges_below t.now.nodes parent id) address }
 {
-    let Some(parent) = parent else {
+    let Some(up) = parent else {
         return None;
     };
-    let Some(value) = node.prop("ranges") else {
+    let Some(value) = t.prop(id, "ranges") else {
         return None;
     };
-    pass_shaped(shape_of(parent, node), value.parts.as_slice(), address)
+    pass_shaped(shape_of(t, up, id), value.parts.as_slice(), address)
 }
 
 // Through the node at a place.
@@ -91,7 +93,7 @@ fn pass(t: &Tree, id: NodeId, address: u128) -> Option<u128>
     requires whole { IsOk (ranges_of t.now.nodes id) }
     ensures { result ≡ passed (way_through t.now.nodes id) address }
 {
-    pass_below(parent_of(t, id), t.node(id), address)
+    pass_below(t, t.parent(id), id, address)
 }
 
 /// An address of a node as the root sees it: from the node's parent upward, each node's `ranges`
@@ -108,7 +110,7 @@ pub fn translate(t: &Tree, id: NodeId, a: u128) -> u128
     let mut address = a;
     // No node has as many above it as there are nodes.
     for _ in 0..t.nodes().len() {
-        let Some(up) = parent_id(t, at) else {
+        let Some(up) = t.parent(at) else {
             return address;
         };
         let Some(next) = pass(t, up, address) else {

@@ -23,46 +23,10 @@ const MOST_BYTES: usize = 200;
 /// One of so many ends is read with a beginning.
 const EACH: usize = 6;
 
-/// What may stand after the beginning of a source, fit or not.
-const ENDS: [&str; 37] = [
-    "",
-    ";",
-    ":",
-    "{",
-    "}",
-    "<",
-    ">",
-    "[",
-    "]",
-    "(",
-    ")",
-    "=",
-    ",",
-    "/",
-    "-",
-    "?",
-    "+",
-    "&l",
-    "&{/a}",
-    "a",
-    " l:",
-    "7",
-    "ab",
-    "a@1",
-    "p?",
-    "'c'",
-    "\"t\"",
-    "0x10000000000000000",
-    "/bits/",
-    "/include/",
-    "/dts-v1/",
-    "/plugin/",
-    "/memreserve/",
-    "/delete-node/",
-    "/delete-property/",
-    "/omit-if-no-ref/",
-    "$",
-];
+/// What may stand after the beginning of a source, fit or not, with blanks between; nothing may, too.
+const ENDS: &str = " ; : { } < > [ ] ( ) = , / - ? + &l &{/a} a \tl: 7 ab a@1 p? 'c' \"t\" \
+0x10000000000000000 /bits/ /include/ /dts-v1/ /plugin/ /memreserve/ /delete-node/ \
+/delete-property/ /omit-if-no-ref/ $";
 
 pub fn answer(alloc: Global, row: &Row) -> Result<Option<String>, AllocError> {
     if let Some(source) = row.bytes("base") {
@@ -73,7 +37,7 @@ pub fn answer(alloc: Global, row: &Row) -> Result<Option<String>, AllocError> {
         Ok(Some(cuts(alloc, source)?))
     } else if let Some(source) = row.bytes("begun") {
         let mut out = String::new(alloc);
-        for end in ENDS {
+        for end in ENDS.split(' ') {
             push_difference(alloc, source, end, true, &mut out)?;
         }
         if out.is_empty() {
@@ -97,8 +61,10 @@ fn read_over(alloc: Global, source: &[u8], base: bool) -> Result<String, AllocEr
     if source.len() <= MOST_BYTES {
         for (size, _) in source.iter().enumerate() {
             let (begun, _) = source.split_at(size);
-            for end in ENDS.iter().skip(size % EACH).step_by(EACH) {
-                push_difference(alloc, begun, end, base, &mut out)?;
+            for (at, end) in ENDS.split(' ').enumerate() {
+                if at % EACH == size % EACH {
+                    push_difference(alloc, begun, end, base, &mut out)?;
+                }
             }
         }
     }

@@ -134,7 +134,7 @@ back_none true fs i j at to v a f b r =
     on_step fs i at 10 [] v (last_fed i at fs v (fits_feed i (10 ∷ []) [] f) b (ends_same j i to at fs v (alike_back i j at to a) (ended_value (front fs j) to v r)))
 back_none false fs i j at to v a f b r = ends_same j i to at fs v (alike_back i j at to a) (ended_value (front fs j) to v r)
 
--- behind a line end
+-- after a line end
 abbrev Onward : (ds : List ℕ) → (k g : Front) → (at to : ℕ) → Value → Type 0
 Onward ds k g at to v = k.frames ≡ g.frames → Alike (at + 1) to g.inner k.inner → Fits (with_returns (lines_of false ds)) g.inner → Begun false (at + 1) g.inner → ReadsOn g (at + 1) (lines_of false ds) v
 

@@ -1,4 +1,4 @@
--- Blocks where they begin: each with the characters that spell it, and how reading goes on behind it.
+-- Blocks where they begin: each with the characters that spell it, and how reading goes on after it.
 use Rattle.std.proofs.Common.{◌≡◌, ℕ, zero, suc, ◌+◌, ◌<◌, ◌≤◌, Bool, true, false, not, ◌==◌, nat_lt, List, [], ◌∷◌, ◌++◌, length, Option, Some, Result, Ok, ◌⊎◌, inl, inr, refl, sym, ap, subst, ◌∙◌, arith, append_assoc, length-append}
 use Rattle.std.specs.List.{list_any}
 use Rattle.std.specs.Str.{bytes_eq}
@@ -19,7 +19,7 @@ use Rattle.yaml_profile.proofs.ReadOpen.{KeyLine, DashLine, MapOn, ListOn, map_o
 
 -- ---- what is found
 
--- what stands behind a colon
+-- what stands after a colon
 pub record NodeRead (fs : List Frame) (column : ℕ) (in_map : Bool) (at : ℕ) (xs : List ℕ) (v : Value) : Type 0 where
   pub node : Node
   pub rest : List ℕ
@@ -28,7 +28,7 @@ pub record NodeRead (fs : List Frame) (column : ℕ) (in_map : Bool) (at : ℕ) 
   pub closed : Closed fs (node_value node) (past at (spell_node node)) rest v
   pub ended : all_ended false rest ≡ true
 
--- what stands behind a dash
+-- what stands after a dash
 pub record ItemRead (fs : List Frame) (column at : ℕ) (xs : List ℕ) (v : Value) : Type 0 where
   pub item : Item
   pub rest : List ℕ
@@ -139,7 +139,7 @@ further_named fs column keys values key at fails g h = elim (cases_Bool (list_an
   | inr e ↦ let q : ◌≡◌ {A = Result Front Broken} (Ok (front (InMap column (keys ++ key ∷ []) values ∷ fs) (AtValue 0 false false))) (Ok g) = rw e at h in record { new = e; is = cc }
 ]
 
--- behind these entries so many characters stand at most, and the map is read to its end
+-- after these entries so many characters stand at most, and the map is read to its end
 abbrev pub MoreEntries : (n m : ℕ) → Type 0
 MoreEntries n m = (place : Option ℕ) (fs : List Frame) (column at : ℕ) (es : Entries) (xs rest : List ℕ) (v : Value) → m ≤ n → length rest ≤ m → xs ≡ spell_entries column es ++ rest → all_ended false rest ≡ true → length fs < 32
     → AreEntries place column (suc (length fs)) es → MapOn fs column (keys_of es) (entry_values es) (past at (spell_entries column es)) rest v → MapRead place fs column at xs v
@@ -165,7 +165,7 @@ next_entry_read n m more place fs column at es xs rest line v le p level are q k
     x.ended level (are, k.is, new, x.is)
     (subst (λ (p : ℕ). MapOn fs column (keys_of es ++ key_text k.key ∷ []) (entry_values es ++ node_value x.node ∷ []) p x.rest v) (entry_place (spell_entries column es) (spell_key k.key) (spell_node x.node) column at) on)
 
--- a further key, and the entries behind it
+-- a further key, and the entries after it
 further_entry : (n m : ℕ) → PartsRead n → MoreEntries n m → (place : Option ℕ) (fs : List Frame) (column at : ℕ) (es : Entries) (xs rest line : List ℕ) (v : Value) → suc m ≤ n → length rest ≤ suc m → xs ≡ spell_entries column es ++ rest → length fs < 32
     → AreEntries place column (suc (length fs)) es → rest ≡ spaces column ++ line → (k : Keyed (InMap column (keys_of es) (entry_values es) ∷ fs) KeyOnly (Some column) (past at (spell_entries column es) + column) line v) → MapRead place fs column at xs v
 further_entry n m parts more place fs column at es xs rest line v le short p level are q k =
@@ -238,7 +238,7 @@ abbrev pub MoreItems : (n m : ℕ) → Type 0
 MoreItems n m = (fs : List Frame) (column at : ℕ) (es : Items) (xs rest : List ℕ) (v : Value) → m ≤ n → length rest ≤ m → xs ≡ spell_items column es ++ rest → all_ended false rest ≡ true → length fs < 32
     → AreItems column (suc (length fs)) es → ListOn fs column (item_values es) (past at (spell_items column es)) rest v → ListRead fs column at xs v
 
--- a further item, and those behind it
+-- a further item, and those after it
 next_item_read : (n m : ℕ) → MoreItems n m → (fs : List Frame) (column at : ℕ) (es : Items) (xs rest : List ℕ) (v : Value) → suc m ≤ n → length rest ≤ suc m → xs ≡ spell_items column es ++ rest → length fs < 32
     → AreItems column (suc (length fs)) es → (l : DashLine fs column (item_values es) (past at (spell_items column es)) rest v)
     → ItemRead (InList column (item_values es) ∷ fs) column (past at (spell_items column es) + column + 1) l.more v → ListRead fs column at xs v
@@ -252,7 +252,7 @@ next_item_read n m more fs column at es xs rest v le short p level are l x =
     x.ended level (are, x.is)
     (subst (λ (p : ℕ). ListOn fs column (item_values es ++ item_value x.item ∷ []) p x.rest v) (item_place (spell_items column es) (spell_item column x.item) column at) on)
 
--- behind a dash on a line that begins at s
+-- after a dash on a line that begins at s
 dash_item : (n : ℕ) → PartsRead n → (fs : List Frame) (column : ℕ) (items : List Value) (s : ℕ) (more : List ℕ) (v : Value) → length more ≤ n → word_ends true more ≡ true → all_ended true more ≡ true
     → ReadsOn (front (InList column items ∷ fs) (AtValue s true false)) (s + column + 1) more v → ItemRead (InList column items ∷ fs) column (s + column + 1) more v
 dash_item n parts fs column items s more v short word ended on =
@@ -307,7 +307,7 @@ dashes_within : (fs : List Frame) (own : ℕ) (es : Items) → (is_deeper own fs
 dashes_within fs own es (inl d) column in_map u = deep_dashes column in_map own es (u.least own d)
 dashes_within fs own es (inr m) column in_map u = same_dashes column in_map own es (u.same own m).0 (u.same own m).1
 
--- behind the spaces of its column
+-- after the spaces of its column
 column_parts : (n : ℕ) (ys line rest xs : List ℕ) → xs ≡ spaces n ++ line → line ≡ ys ++ rest → xs ≡ (spaces n ++ ys) ++ rest
 column_parts n ys line rest xs a b = rw (append_assoc (spaces n) ys rest) (a ∙ ap (λ zs. spaces n ++ zs) b)
 

@@ -6,7 +6,7 @@ use Rattle.yaml_profile.specs.Signs.{begins_with}
 use Rattle.yaml_profile.specs.Written.{end_of_line, with_ends, ends_begun, is_clear}
 use Rattle.yaml_profile.proofs.ReadSteps.{is_that, all_ended}
 
--- the characters with each line end as one line feed, behind the last line too
+-- the characters with each line end as one line feed, after the last line too
 abbrev pub lines_of : (within : Bool) → List ℕ → List ℕ
 lines_of within [] = if within then 10 ∷ [] else []
 lines_of within (c ∷ cs) = if (c == 13) && begins_with 10 cs then lines_of within cs else c ∷ lines_of (not (c == 10)) cs

@@ -23,7 +23,7 @@ pub record BodyRead (rest : List ℕ) (v : Value) : Type 0 where
   pub parts : rest ≡ spell_body block
   pub value : body_value block ≡ v
 
--- nothing stands behind the value of a file
+-- nothing stands after the value of a file
 no_more : (u : Value) (s at c : ℕ) (cs : List ℕ) (p : ℕ) (more : List ℕ) (v : Value) → OnFrom (close_line [] u s at c cs) p more v → ⊥
 unfolding settle
 no_more u s at c cs p more v h = elim (cases_Bool (((at - s) == 0) && begins_mark c cs)) [ inl e ↦ rw e at h | inr e ↦ rw e at h ]
@@ -83,7 +83,7 @@ three_dashes xs v before at more p ended on =
     let b : ReadsOn (front [] (AfterValue NothingYet false)) (at + 1 + 1) more v = step_by [] (InMark 1) (Ok (front [] (AfterValue NothingYet false))) (at + 1) 45 more v (mark_over (at + 1) 45 (with_returns more)) a in
     behind_mark xs v before (at + 1 + 1) more p ended b
 
--- behind the first dash
+-- after the first dash
 dashes : (xs : List ℕ) (v : Value) (before : Gapped [] Fresh 0 xs v) (at : ℕ) (more : List ℕ) → before.rest ≡ 45 ∷ more → is_mark true 45 more ≡ true → all_ended true more ≡ true → ReadsOn (front [] (InMark 2)) at more v → FileRead xs v
 dashes xs v before at [] p m ended on = absurd (let q : false ≡ true = m in cc)
 dashes xs v before at (d ∷ []) p m ended on = absurd (let q : false ≡ true = m in cc)

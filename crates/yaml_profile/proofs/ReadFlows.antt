@@ -23,7 +23,7 @@ use Rattle.yaml_profile.proofs.ReadQuotes.{double_item, single_item}
 
 -- ---- texts
 
--- where a value begins that is no quoted text, and no word sign alone
+-- where a value begins that is no quoted text, and no word indicator alone
 abbrev pub sign_or_plain : List Frame → Role → (at c : ℕ) → Result Front Broken
 sign_or_plain fs role at c =
     if is_value_sign c && not (is_key_only role) then begin_sign fs at c
@@ -93,7 +93,7 @@ flow_text_read fs place least at c cs v f l m s n k e h =
 
 -- ---- items
 
--- an item, with what stands behind it
+-- an item, with what stands after it
 record Item (fs : List Frame) (place : Option ℕ) (least level at : ℕ) (xs : List ℕ) (v : Value) : Type 0 where
   flow : Flow
   rest : List ℕ
@@ -101,7 +101,7 @@ record Item (fs : List Frame) (place : Option ℕ) (least level at : ℕ) (xs : 
   item : ItemEnded fs (flow_value flow) (past at (spell_flow flow)) rest v
   is : IsFlow place true (ends_before item.pad) least level flow
 
--- lists of at most so many characters behind the bracket are read
+-- lists of at most so many characters after the bracket are read
 abbrev Nested : ℕ → Type 0
 Nested n = (fs : List Frame) (least at : ℕ) (xs : List ℕ) (v : Value) → length xs ≤ n → IsLeast least fs → all_ended true xs ≡ true → OnFrom (open_flow fs at) (at + 1) xs v
     → FlowList fs least (length fs) at (91 ∷ xs) v
@@ -205,7 +205,7 @@ list_over fs b p least at rest v k a i l m h =
     list_read fs (list_of b p) (spell_before b) (spell_pad p) rest (a_list (items_from (values_before b))) least at v (spell_list_of b p) (value_list_of b p)
     (λ place in_flow ended. is_list_of b p least (length fs) place in_flow ended k a i) l h
 
--- an item with what stands before and behind it
+-- an item with what stands before and after it
 record Step (fs : List Frame) (least level at : ℕ) (xs : List ℕ) (v : Value) : Type 0 where
   pad : Pad
   flow : Flow
@@ -287,7 +287,7 @@ no_more : (fs : List Frame) (vs : List Value) (u : Value) (k c at : ℕ) (cs : L
 unfolding after_item
 no_more fs vs u k c at cs v P a b h = absurd (rw (a, b) at h)
 
--- behind an item
+-- after an item
 step_on_from : (m : ℕ) → Onwards m → (fs : List Frame) (b : Option Elements) (least at : ℕ) (xs : List ℕ) (v : Value) → length xs ≤ suc m → IsLeast least fs → length fs < 32 → AreBefore least (suc (length fs)) b
     → Step (InFlow (values_before b) ∷ fs) least (suc (length fs)) (past at (91 ∷ spell_before b)) xs v → FlowList fs least (length fs) at (91 ∷ (spell_before b ++ xs)) v
 step_on_from m again fs b least at xs v k l t a s =

@@ -26,7 +26,7 @@ use Rattle.yaml_profile.proofs.WrittenTexts.{spaced_after, swapped}
 
 -- ---- tests
 
--- whether a word ends before characters, by what stands behind them
+-- whether a word ends before characters, by what stands after them
 pub word_within : (xs ys : List ℕ) (e : Bool) → word_ends e (xs ++ ys) ≡ word_ends (word_ends e ys) xs
 word_within [] ys e = refl
 word_within (x ∷ xs) ys e = refl
@@ -138,7 +138,7 @@ pub record Goes (fs : List Frame) (t : Folding) (j at : ℕ) (xs : List ℕ) (v 
   pub on : ReadsOn (front fs (InPlain (with_char (with_chars t before) first) ValueOnly begun false)) (past at before + len_utf8 first) more v
   pub ended : all_ended true more ≡ true
 
--- or ends before it, so that the line is read as behind any whole value
+-- or ends before it, so that the line is read as after any whole value
 abbrev pub Found : List Frame → Folding → (s j at : ℕ) → List ℕ → Value → Type 0
 Found fs t s j at xs v = Goes fs t j at xs v ⊎ ReadsOn (front fs (AtLine s (Whole (scalar_of t.text)))) at xs v
 
@@ -346,7 +346,7 @@ comment_found : (fs : List Frame) (t : Folding) (s at : ℕ) (cs : List ℕ) (v 
 unfolding in_line
 comment_found fs t s at cs v h = line_back fs (Whole (scalar_of t.text)) s at 35 cs v (line_step fs (Going t) s at 35 cs v h)
 
--- a line begins behind a plain text, with j spaces read
+-- a line begins after a plain text, with j spaces read
 abbrev FoundAt : List Frame → Folding → (s j at : ℕ) → Value → List ℕ → Type 0
 FoundAt fs t s j at v xs = ReadsOn (front fs (AtLine s (Going t))) at xs v → Found fs t s j at xs v
 
@@ -377,7 +377,7 @@ next_line (c ∷ cs) fs t s j at within v e w l h = elim (cases_Bool (c == 32)) 
   ]
 ]
 
--- ---- characters behind one another
+-- ---- characters after one another
 
 -- a space is the last of these
 pub record LastSpace (xs : List ℕ) : Type 0 where

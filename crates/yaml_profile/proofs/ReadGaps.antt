@@ -25,7 +25,7 @@ is_steady w = true
 pub for_that : (P : ℕ → Type 0) (c d : ℕ) → (c == d) ≡ true → P d → P c
 for_that P c d e p = subst P (is_that c d e) p
 
--- behind a character that is no line end the line goes on
+-- after a character that is no line end the line goes on
 pub still_within : (within : Bool) (c : ℕ) (cs : List ℕ) → (c == 10) ≡ false → all_ended within (c ∷ cs) ≡ true → all_ended true cs ≡ true
 still_within within c cs e h = rw e at h
 
@@ -68,7 +68,7 @@ comment_more fs w at c cs v e r = record {
   ended = r.ended;
 }
 
--- a comment, from behind its `#` on
+-- a comment, from after its `#` on
 pub comment_read : (fs : List Frame) (w : Waiting) (at : ℕ) (xs : List ℕ) (v : Value) → ReadsOn (front fs (InComment w)) at xs v → all_ended true xs ≡ true → Commented fs w at xs v
 comment_read fs w at [] v h lined = absurd (let q : false ≡ true = lined in cc)
 comment_read fs w at (c ∷ cs) v h lined = elim (cases_Bool (c == 10)) [
@@ -83,7 +83,7 @@ pub spaces_one_more : (n : ℕ) (cs : List ℕ) → spaces n ++ (32 ∷ cs) ≡ 
 spaces_one_more zero cs = refl
 spaces_one_more (suc n) cs = ap (λ zs. 32 ∷ zs) (spaces_one_more n cs)
 
--- a place behind spaces and more
+-- a place after spaces and more
 pub past_indent : (n at : ℕ) (xs : List ℕ) → past at (spaces n ++ xs) ≡ past (at + n) xs
 past_indent n at xs = past_append (spaces n) xs at ∙ ap (λ p. past p xs) (past_spaces n at)
 
@@ -222,7 +222,7 @@ ending_length : (e : Ending) → 0 < length (spell_ending e)
 ending_length (Bare n) = let l : length (spaces n ++ 10 ∷ []) ≡ length (spaces n) + 1 = length-append (spaces n) (10 ∷ []) in omega arith
 ending_length (Noted n text) = let l : length (spaces n ++ 35 ∷ (text ++ 10 ∷ [])) ≡ length (spaces n) + suc (length (text ++ 10 ∷ [])) = length-append (spaces n) (35 ∷ (text ++ 10 ∷ [])) in omega arith
 
--- what stands behind a line end is shorter
+-- what stands after a line end is shorter
 pub shorter : (e : Ending) (xs rest : List ℕ) (m : ℕ) → xs ≡ spell_ending e ++ rest → length xs ≤ suc m → length rest ≤ m
 shorter e xs rest m parts l =
     let a : length xs ≡ length (spell_ending e) + length rest = ap length parts ∙ length-append (spell_ending e) rest in
@@ -267,7 +267,7 @@ whole_line : (fs : List Frame) (u : Value) (s at c : ℕ) (rest : List ℕ) (f :
 unfolding line_content block_line
 whole_line fs u s at c rest f flow h = rw flow at h
 
--- where a value is whole, the line behind it is none of it
+-- where a value is whole, the line after it is none of it
 pub closed_whole : (fs : List Frame) (u : Value) (s : ℕ) (rest : List ℕ) (v : Value) → is_flow fs ≡ false → AtContent fs (Whole u) s rest v → Closed fs u s rest v
 closed_whole fs u s rest v flow (inl h) = inl (h.0, end_value fs u s v flow h.1)
 closed_whole fs u s rest v flow (inr b) = inr (record {
@@ -282,9 +282,9 @@ closed_whole fs u s rest v flow (inr b) = inr (record {
   on = b.on;
 })
 
--- ---- behind a value
+-- ---- after a value
 
--- behind spaces a character that doesn't end the line
+-- after spaces a character that doesn't end the line
 pub record SignRead (fs : List Frame) (u : Value) (at : ℕ) (xs : List ℕ) (v : Value) : Type 0 where
   pub indent : ℕ
   pub sign : ℕ
@@ -295,7 +295,7 @@ pub record SignRead (fs : List Frame) (u : Value) (at : ℕ) (xs : List ℕ) (v 
   pub on : ReadsOn front (past at (spaces indent) + len_utf8 sign) rest v
   pub ended : all_ended true rest ≡ true
 
--- behind a value a line ends, with a space before a comment, or a sign stands
+-- after a value a line ends, with a space before a comment, or an indicator stands
 abbrev pub AfterRead : List Frame → Waiting → (spaced : Bool) → (at : ℕ) → List ℕ → Value → Type 0
 AfterRead fs w spaced at xs v = ((e : LineEnded fs w at xs v) × (spaced ≡ false → IsApart e.ending)) ⊎ SignRead fs (value_so_far w) at xs v
 
@@ -343,7 +343,7 @@ space_before fs w spaced next at cs v (inr r) = inr (record {
   ended = r.ended;
 })
 
--- a character behind a value, no space
+-- a character after a value, no space
 abbrev AfterFrom : List Frame → Waiting → (spaced : Bool) → (at : ℕ) → List ℕ → Value → ℕ → Type 0
 AfterFrom fs w spaced at cs v c = all_ended true (c ∷ cs) ≡ true → OnFrom (in_after_value fs w spaced at c) (at + len_utf8 c) cs v → AfterRead fs w spaced at (c ∷ cs) v
 
@@ -408,7 +408,7 @@ no_item (InMap column keys values ∷ fs) u at c flow = refl
 no_item (InList column items ∷ fs) u at c flow = refl
 no_item (InFlow items ∷ fs) u at c flow = absurd (let q : true ≡ false = flow in cc)
 
--- outside flow lists no sign stands behind a value
+-- outside flow lists no indicator stands after a value
 pub no_sign : {A : Type 0} (fs : List Frame) (u : Value) (at c : ℕ) (f : Front) → is_flow fs ≡ false → after_item fs u at c ≡ Ok f → A
 no_sign fs u at c f flow h = absurd (let q : ◌≡◌ {A = Result Front Broken} (no_text (place_of at c)) (Ok f) = sym (no_item fs u at c flow) ∙ h in cc)
 
@@ -417,7 +417,7 @@ pub ended_after : (fs : List Frame) (w : Waiting) (spaced : Bool) (at : ℕ) (xs
 ended_after fs w spaced at xs v flow (inl h) = h
 ended_after fs w spaced at xs v flow (inr r) = no_sign fs (value_so_far w) (past at (spaces r.indent)) r.sign r.front flow r.after
 
--- a line ends behind a value outside flow lists
+-- a line ends after a value outside flow lists
 pub after_value_read : (fs : List Frame) (w : Waiting) (sp : Bool) (at : ℕ) (xs : List ℕ) (v : Value) → is_flow fs ≡ false → all_ended true xs ≡ true → ReadsOn (front fs (AfterValue w sp)) at xs v
     → (e : LineEnded fs w at xs v) × (sp ≡ false → IsApart e.ending)
 after_value_read fs w sp at xs v flow lined h = ended_after fs w sp at xs v flow (after_read fs w sp at xs v lined h)
@@ -443,7 +443,7 @@ leaf_of fs place least level at x xs rest v parts is flow e apart =
 
 -- ---- in flow lists
 
--- lines without content, and a sign behind the spaces of a line
+-- lines without content, and an indicator after the spaces of a line
 pub record ItemLine (fs : List Frame) (u : Value) (s : ℕ) (xs : List ℕ) (v : Value) : Type 0 where
   pub gaps : List Ending
   pub indent : ℕ
@@ -510,6 +510,6 @@ pub item_of : (fs : List Frame) (u : Value) (at : ℕ) (xs : List ℕ) (v : Valu
 item_of fs u at xs v flow (inl h) = item_over fs u at xs v h.0 (h.1 refl) flow
 item_of fs u at xs v flow (inr r) = record { pad = Inline r.indent; sign = r.sign; rest = r.rest; parts = r.parts; is = tt; front = r.front; after = r.after; on = r.on; ended = r.ended }
 
--- behind an item of a flow list
+-- after an item of a flow list
 pub item_after : (fs : List Frame) (u : Value) (at : ℕ) (xs : List ℕ) (v : Value) → is_flow fs ≡ true → all_ended true xs ≡ true → ReadsOn (front fs (AfterValue (Whole u) false)) at xs v → ItemEnded fs u at xs v
 item_after fs u at xs v flow lined h = item_of fs u at xs v flow (after_read fs (Whole u) false at xs v lined h)

@@ -1,4 +1,4 @@
--- What is read of the line on which a block scalar begins, behind its `|` or `>`.
+-- What is read of the line on which a block scalar begins, after its `|` or `>`.
 use Rattle.std.proofs.Common.{◌≡◌, ℕ, zero, suc, ◌+◌, Bool, true, false, not, ◌&&◌, ◌||◌, ◌==◌, List, [], ◌∷◌, ◌++◌, Ok, inl, inr, if◌then◌else◌, refl, sym, ap, subst, ◌∙◌, arith, append_assoc}
 use Rattle.std.specs.List.{list_all}
 use Rattle.std.specs.Char.{len_utf8}
@@ -127,7 +127,7 @@ hash_ends fs b g at cs v e h =
       ended = r.ended;
     }
 
--- behind this character, which is no sign
+-- after this character, which is no indicator
 header_one : (fs : List Frame) (b : BlockText) (g sp : Bool) (at c : ℕ) (cs : List ℕ) (v : Value) → (((c == 43) || (c == 45)) && not sp && not g) ≡ false → all_ended (not (c == 10)) cs ≡ true
     → ReadsOn (front fs (InHeader b g sp)) at (c ∷ cs) v → (all_ended true cs ≡ true → ReadsOn (front fs (InHeader b g true)) (at + 1) cs v → HeaderEnded fs b true (at + 1) cs v)
     → HeaderEnded fs b sp at (c ∷ cs) v
@@ -159,7 +159,7 @@ no_sign true false true h = refl
 no_sign true false false h = absurd (let q : false ≡ true = h in cc)
 no_sign false g sp h = refl
 
--- behind a sign or a space
+-- after an indicator or a space
 header_end : (xs : List ℕ) (fs : List Frame) (b : BlockText) (g sp : Bool) (at : ℕ) (v : Value) → (g || sp) ≡ true → all_ended true xs ≡ true → ReadsOn (front fs (InHeader b g sp)) at xs v → HeaderEnded fs b sp at xs v
 header_end [] fs b g sp at v s e h = absurd (let q : false ≡ true = e in cc)
 header_end (c ∷ cs) fs b g sp at v s e h = header_one fs b g sp at c cs v (no_sign ((c == 43) || (c == 45)) g sp s) e h (λ a y. header_end cs fs b g true (at + 1) v (or_true g) a y)
@@ -168,7 +168,7 @@ header_end (c ∷ cs) fs b g sp at v s e h = header_one fs b g sp at c cs v (no_
     or_true true = refl
     or_true false = refl
 
--- the sign of a block scalar, if there is one, and the end of its line
+-- the indicator of a block scalar, if there is one, and the end of its line
 pub record HeaderRead (fs : List Frame) (folded : Bool) (at : ℕ) (xs : List ℕ) (v : Value) : Type 0 where
   pub chomp : Chomp
   pub ending : Ending

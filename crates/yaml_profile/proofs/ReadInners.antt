@@ -20,7 +20,7 @@ use Rattle.yaml_profile.proofs.ReadSteps.{past, past_append, never, with_returns
 use Rattle.yaml_profile.proofs.ReadGaps.{for_that, still_within, reads_end}
 use Rattle.yaml_profile.proofs.WrittenQuotes.{first_digit, whole_number}
 
--- the role behind what is between the quotes: a text with a line end in it is no key
+-- the role after what is between the quotes: a text with a line end in it is no key
 abbrev pub RoleBehind : Bool → Role → Role → Type 0
 RoleBehind true role later = (is_key_only role ≡ false) × (later ≡ ValueOnly)
 RoleBehind false role later = later ≡ role
@@ -303,7 +303,7 @@ escape_end : {A : Type 0} (fs : List Frame) (t : Folding) (role : Role) (begun a
 unfolding ends
 escape_end fs t role begun at v h = absurd (let q : ◌≡◌ {A = Result Value Broken} (no_text at) (Ok v) = reads_end (front fs (InEscape t role begun)) at v h in cc)
 
--- from behind a backslash on
+-- from after a backslash on
 escape_read : (fs : List Frame) (t : Folding) (role : Role) (begun at : ℕ) (xs : List ℕ) (v : Value) → all_ended true xs ≡ true → ReadsOn (front fs (InEscape t role begun)) (at + 1) xs v → InnerRead fs t role begun at (92 ∷ xs) v
 escape_read fs t role begun at [] v lined h = escape_end fs t role begun (at + 1) v h
 escape_read fs t role begun at (c ∷ cs) v lined h = escape_from fs t role begun at c cs v lined
@@ -378,7 +378,7 @@ double_in (suc m) fs t role begun at (c ∷ cs) v l within lined h = elim (part_
       (double_in m fs (with_inner t r.inner) r.later begun (past at (spell_inner r.inner)) r.rest v (shorter r.inner (c ∷ cs) r.rest m r.parts l) r.within r.ended r.on)
 ]
 
--- from behind the opening quote on
+-- from after the opening quote on
 pub inners_read : (fs : List Frame) (t : Folding) (role : Role) (begun at : ℕ) (xs : List ℕ) (v : Value) → all_ended true xs ≡ true
     → ReadsOn (front fs (InDouble t role begun)) at xs v → DoubleRead fs t role begun at xs v
 inners_read fs t role begun at xs v lined h = double_in (length xs) fs t role begun at xs v (let l : length xs ≤ length xs = omega arith in l) true lined h

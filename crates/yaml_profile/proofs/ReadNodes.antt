@@ -1,4 +1,4 @@
--- What stands behind colons and dashes, as deep as blocks go.
+-- What stands after colons and dashes, as deep as blocks go.
 use Rattle.std.proofs.Common.{◌≡◌, ℕ, zero, suc, ◌+◌, ◌-◌, ◌≤◌, Bool, true, false, not, List, [], ◌∷◌, ◌++◌, length, Option, None, Result, Ok, inl, inr, refl, sym, ap, subst, ◌∙◌, arith, append_assoc}
 use Rattle.edt_base.specs.YamlData.{Value, a_map, null}
 use Rattle.yaml_profile.specs.declared.stop.Broken.{Broken}

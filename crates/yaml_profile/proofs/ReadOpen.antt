@@ -1,4 +1,4 @@
--- Where blocks go on and end: the lines behind a whole value, and what stands behind a colon or dash.
+-- Where blocks go on and end: the lines after a whole value, and what stands after a colon or dash.
 use Rattle.std.proofs.Common.{◌≡◌, ℕ, suc, ◌+◌, ◌-◌, ◌<◌, Bool, true, false, not, ◌&&◌, ◌==◌, nat_lt, nat_le, List, [], ◌∷◌, ◌++◌, length, Result, Ok, ◌⊎◌, inl, inr, if◌then◌else◌, refl, sym, ap, subst, ◌∙◌, arith, append_assoc}
 use Rattle.std.specs.Char.{len_utf8}
 use Rattle.std.proofs.lemmas.Bool.{and_parts, cases_Bool}
@@ -24,7 +24,7 @@ use Rattle.yaml_profile.proofs.WrittenKeys.{and_false}
 pub column_is : (s n : ℕ) → (s + n) - s ≡ n
 column_is s n = omega arith
 
--- how reading goes on behind the first character of a line
+-- how reading goes on after the first character of a line
 pub begins_on : (r : ℕ → ℕ → List ℕ → Result Front Broken) (s : ℕ) (rest : List ℕ) (v : Value) (b : Begins r s rest v) → OnFrom (r (s + b.indent) b.first (with_returns b.more)) (s + b.indent + len_utf8 b.first) b.more v
 begins_on r s rest v b = subst (λ (q : Result Front Broken). OnFrom q (s + b.indent + len_utf8 b.first) b.more v) (sym b.taken) b.on
 
@@ -122,7 +122,7 @@ pub list_on : (fs : List Frame) (own : ℕ) (items : List Value) (u : Value) (s 
 list_on fs own items u s rest v (inl e) = inl (inl e)
 list_on fs own items u s rest v (inr b) = list_line fs own items u s rest v b.indent b.first b.more b.parts b.content b.ended (begins_on (λ at c more. close_line (InList own items ∷ fs) u s at c more) s rest v b)
 
--- ---- behind a colon or dash
+-- ---- after a colon or dash
 
 abbrev pub role_at : (mapped : Bool) → (start at : ℕ) → Role
 role_at mapped start at = if mapped then Either (at - start) else ValueOnly
@@ -138,7 +138,7 @@ pub record ValueAhead (fs : List Frame) (start : ℕ) (mapped : Bool) (at : ℕ)
   pub ended : all_ended true more ≡ true
   pub on : OnFrom (begin_value fs (role_at mapped start (past at (spaces spaced))) (past at (spaces spaced)) first (with_returns more)) (past at (spaces spaced) + len_utf8 first) more v
 
--- the line ends, with a comment only behind a space
+-- the line ends, with a comment only after a space
 abbrev pub EndAhead : List Frame → (spaced : Bool) → (at : ℕ) → List ℕ → Value → Type 0
 EndAhead fs sp at xs v = (e : LineEnded fs NothingYet at xs v) × (sp ≡ false → IsApart e.ending)
 
@@ -305,7 +305,7 @@ pub nothing_ends : (fs : List Frame) (w : Waiting) (s : ℕ) (v : Value) → is_
 unfolding ends
 nothing_ends fs w s v f h = let g : ◌≡◌ {A = Result Value Broken} (Ok (all_closed fs (value_so_far w))) (Ok v) = rw f at h in cc
 
--- behind a line end where nothing stood yet
+-- after a line end where nothing stood yet
 pub nothing_yet : (fs : List Frame) (s : ℕ) (rest : List ℕ) (v : Value) → is_flow fs ≡ false → AtContent fs NothingYet s rest v → Awaited fs s rest v
 nothing_yet fs s rest v f (inl e) = inl (inl (e.0, nothing_ends fs NothingYet s v f e.1))
 nothing_yet fs s rest v f (inr b) = nothing_line fs s rest v b.indent b.first b.more b.parts b.content b.ended f (begins_on (λ at c more. line_content fs NothingYet s at c more) s rest v b)

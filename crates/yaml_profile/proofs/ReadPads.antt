@@ -19,7 +19,7 @@ use Rattle.yaml_profile.proofs.ReadGaps.{is_some, for_that, spaces_one_more, Com
 abbrev pub item_or_end : List Frame → (at c : ℕ) → (rest : List ℕ) → Result Front Broken
 item_or_end fs at c rest = if c == 93 then end_flow fs at else begin_value fs ValueOnly at c rest
 
--- with the first character behind it
+-- with the first character after it
 pub record Padded (fs : List Frame) (at : ℕ) (xs : List ℕ) (v : Value) : Type 0 where
   pub pad : Pad
   pub first : ℕ
@@ -134,7 +134,7 @@ note_taken : (fs : List Frame) (at : ℕ) (cs : List ℕ) (v : Value) → ReadsO
 unfolding taken in_at_value
 note_taken fs at cs v h = step_on fs (AtValue 0 false true) at 35 cs v h
 
--- behind n spaces
+-- after n spaces
 pad_from : (fs : List Frame) (xs : List ℕ) (n at : ℕ) (v : Value) → is_flow fs ≡ true → all_ended true xs ≡ true → ReadsOn (front fs (AtValue 0 false (is_some n))) (at + n) xs v → Padded fs at (spaces n ++ xs) v
 pad_from fs [] n at v f l h = absurd (let q : false ≡ true = l in cc)
 pad_from fs (c ∷ cs) n at v f l h =

@@ -1,4 +1,4 @@
--- What is found of a file's parts where they begin: each with the characters that spell it, and how reading goes on behind it.
+-- What is found of a file's parts where they begin: each with the characters that spell it, and how reading goes on after it.
 use Rattle.std.proofs.Common.{◌≡◌, ℕ, ◌+◌, ◌≤◌, Bool, true, false, not, ◌&&◌, ◌==◌, List, [], ◌∷◌, ◌++◌, Option, Some, None, Ok, ◌⊎◌}
 use Rattle.std.specs.Char.{len_utf8}
 use Rattle.edt_base.specs.YamlData.{Value}
@@ -17,7 +17,7 @@ MayBegin (Some column) flow c cs = ((c == 9) ≡ false) × ((not flow && (column
 abbrev pub IsLeast : ℕ → List Frame → Type 0
 IsLeast least fs = (n : ℕ) → is_deeper n fs ≡ true → least ≤ n
 
--- a line ends, behind spaces and maybe a comment
+-- a line ends, after spaces and maybe a comment
 pub record LineEnded (fs : List Frame) (w : Waiting) (at : ℕ) (xs : List ℕ) (v : Value) : Type 0 where
   pub ending : Ending
   pub rest : List ℕ
@@ -26,7 +26,7 @@ pub record LineEnded (fs : List Frame) (w : Waiting) (at : ℕ) (xs : List ℕ) 
   pub on : ReadsOn (front fs (AtLine (past at (spell_ending ending)) w)) (past at (spell_ending ending)) rest v
   pub ended : all_ended false rest ≡ true
 
--- lines without content, and the start of the line behind them
+-- lines without content, and the start of the line after them
 pub record Gapped (fs : List Frame) (w : Waiting) (s : ℕ) (xs : List ℕ) (v : Value) : Type 0 where
   pub gaps : List Ending
   pub rest : List ℕ
@@ -35,7 +35,7 @@ pub record Gapped (fs : List Frame) (w : Waiting) (s : ℕ) (xs : List ℕ) (v :
   pub next : AtContent fs w (past s (spell_gaps gaps)) rest v
   pub ended : all_ended false rest ≡ true
 
--- an item of a flow list is whole: what stands behind it, and the comma or bracket
+-- an item of a flow list is whole: what stands after it, and the comma or bracket
 pub record ItemEnded (fs : List Frame) (u : Value) (at : ℕ) (xs : List ℕ) (v : Value) : Type 0 where
   pub pad : Pad
   pub sign : ℕ
@@ -47,7 +47,7 @@ pub record ItemEnded (fs : List Frame) (u : Value) (at : ℕ) (xs : List ℕ) (v
   pub on : ReadsOn front (past at (spell_pad pad) + len_utf8 sign) rest v
   pub ended : all_ended true rest ≡ true
 
--- a text in a flow list, with what stands behind it
+-- a text in a flow list, with what stands after it
 pub record FlowText (fs : List Frame) (place : Option ℕ) (least at : ℕ) (xs : List ℕ) (v : Value) : Type 0 where
   pub text : Scalar
   pub rest : List ℕ

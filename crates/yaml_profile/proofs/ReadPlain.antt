@@ -1,4 +1,4 @@
--- Plain texts that were read, with their further lines and what stands behind them.
+-- Plain texts that were read, with their further lines and what stands after them.
 use Rattle.std.proofs.Common.{◌≡◌, ℕ, zero, suc, ◌+◌, ◌<◌, ◌≤◌, Bool, true, false, not, ◌&&◌, ◌||◌, ◌==◌, List, [], ◌∷◌, ◌++◌, length, Option, Some, None, Result, Ok, ◌⊎◌, inl, inr, refl, sym, ap, subst, ◌∙◌, arith, append-nil, append_assoc, length-append}
 use Rattle.std.specs.Prelude.{codes}
 use Rattle.std.specs.Str.{bytes_eq}
@@ -22,9 +22,9 @@ use Rattle.yaml_profile.proofs.ReadFurther.{word_within, mark_within, stays_more
 use Rattle.yaml_profile.proofs.WrittenParagraphs.{chars_append, end_waits}
 use Rattle.yaml_profile.proofs.WrittenTexts.{spaced_after}
 
--- ---- what stands behind a text
+-- ---- what stands after a text
 
--- a sign of a flow list
+-- an indicator of a flow list
 pub record Signed (fs : List Frame) (u : Value) (at : ℕ) (xs : List ℕ) (v : Value) : Type 0 where
   pub sign : ℕ
   pub more : List ℕ
@@ -33,7 +33,7 @@ pub record Signed (fs : List Frame) (u : Value) (at : ℕ) (xs : List ℕ) (v : 
   pub on : OnFrom (after_item fs u at sign) (at + len_utf8 sign) more v
   pub ended : all_ended (not (sign == 10)) more ≡ true
 
--- the end of a line, or in a flow list a sign of it
+-- the end of a line, or in a flow list an indicator of it
 abbrev pub Behind : List Frame → Value → (at : ℕ) → List ℕ → Value → Type 0
 Behind fs u at xs v = ((e : LineEnded fs (Whole u) at xs v) × IsApart e.ending) ⊎ Signed fs u at xs v
 
@@ -148,7 +148,7 @@ comment_ends fs least t role begun at xs v r a b =
     = stays_before (is_flow fs) false (word_ends true (r.sign ∷ r.more)) l.before (32 ∷ []) (subst (λ (zs : List ℕ). stays_plain (is_flow fs) false (word_ends true (r.sign ∷ r.more)) zs ≡ true) l.parts r.stays) in
     (k.0, one_line fs least t at xs l.before (32 ∷ 35 ∷ r.more) v parts stays line)
 
--- ---- a sign of a flow list
+-- ---- an indicator of a flow list
 
 sign_on : (fs : List Frame) (t : Folding) (role : Role) (begun : ℕ) (sp : Bool) (at c p : ℕ) (cs : List ℕ) (v : Value) → ((c == 58) && word_ends true cs) ≡ false → ((c == 35) && sp) ≡ false → (c == 10) ≡ false → (is_flow_sign c && is_flow fs) ≡ true
     → OnFrom (in_plain fs t role begun sp at c (with_returns cs)) p cs v → OnFrom (after_item fs (scalar_of t.text) at c) p cs v
@@ -212,7 +212,7 @@ further_line fs t j at xs text lines rest least v g least_is parts stays =
       subst (λ (b : Bool). may_begin (Some g.indent) (is_flow fs) b g.first text ≡ true) w (may_begin_of (Some g.indent) (is_flow fs) g.first g.more text (spell_furthers lines ++ rest) p g.begins),
     )
 
--- a line, a further one and those behind that
+-- a line, a further one and those after that
 more_lines : (fs : List Frame) (least : ℕ) (t : Folding) (at : ℕ) (xs text more : List ℕ) (v : Value) → IsLeast least fs → xs ≡ text ++ 10 ∷ more → stays_plain (is_flow fs) false true text ≡ true
     → (g : Goes fs (end_line (with_chars t text)) 0 (past at text + 1) more v)
     → Lines fs least (with_char (with_chars (end_line (with_chars t text)) g.before) g.first) (past (past at text + 1) g.before + len_utf8 g.first) g.more v → Lines fs least t at xs v
@@ -238,14 +238,14 @@ more_lines fs least t at xs text more v m parts stays g l =
 
 -- ---- a text, its line and all the further ones
 
--- a list of characters behind others is shorter
+-- a list of characters after others is shorter
 shorter : (xs text more : List ℕ) (c : ℕ) → xs ≡ text ++ c ∷ more → length more < length xs
 shorter xs text more c e =
     let l : length xs ≡ length text + length (c ∷ more) = ap (λ (zs : List ℕ). length zs) e ∙ length-append text (c ∷ more) in
     let k : length (c ∷ more) ≡ suc (length more) = refl in
     omega (arith, l, k)
 
--- texts behind lines of no more than so many characters
+-- texts after lines of no more than so many characters
 abbrev NextLines : ℕ → List Frame → (least : ℕ) → Value → Type 0
 NextLines n fs least v = (t : Folding) (begun at : ℕ) (xs : List ℕ) → length xs ≤ n → all_ended true xs ≡ true → ReadsOn (front fs (InPlain t ValueOnly begun false)) at xs v → Lines fs least t at xs v
 
@@ -393,7 +393,7 @@ ending_word (Bare (suc n)) rest a = refl
 ending_word (Noted zero text) rest a = absurd (omega arith)
 ending_word (Noted (suc n) text) rest a = refl
 
--- the text is one of the tree's, where it is known whether a word ends behind it
+-- the text is one of the tree's, where it is known whether a word ends after it
 text_is : (fs : List Frame) (place : Option ℕ) (flow ended : Bool) (least at c : ℕ) (cs : List ℕ) (v : Value) → is_flow fs ≡ flow → MayBegin place flow c cs → BeginsPlain c cs → (l : Lines fs least (with_char nothing_yet c) at cs v)
     → word_ends true l.rest ≡ ended → IsScalarText place flow ended least (Plain c l.text l.lines)
 text_is fs place flow ended least at c cs v f m b l w =
@@ -425,7 +425,7 @@ plain_read fs role place least at c cs v f l m b e h = elim (text_read fs role l
 
 -- ---- items of flow lists
 
--- what stands behind an item is no blank
+-- what stands after an item is no blank
 after_sign : (fs : List Frame) (u : Value) (at c : ℕ) (f : Front) → after_item fs u at c ≡ Ok f → ((c == 32) || (c == 10)) ≡ false
 unfolding after_item
 after_sign (InFlow items ∷ fs) u at c f h = elim (cases_Bool (c == 44)) [

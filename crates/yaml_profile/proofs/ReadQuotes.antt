@@ -19,7 +19,7 @@ use Rattle.yaml_profile.proofs.ReadParts.{ItemEnded, FlowText, Keyed, LeafRead, 
 use Rattle.yaml_profile.proofs.ReadInners.{RoleBehind, behind_both, DoubleRead, inners_read}
 use Rattle.yaml_profile.proofs.ReadGaps.{for_that, still_within, reads_end, AfterRead, space_before, after_char, ended_after, leaf_of, item_of}
 
--- ---- behind a quoted text
+-- ---- after a quoted text
 
 -- the colon of a key
 record ColonRead (fs : List Frame) (text : List ℕ) (role : Role) (begun at : ℕ) (xs : List ℕ) (v : Value) : Type 0 where
@@ -33,7 +33,7 @@ record ColonRead (fs : List Frame) (text : List ℕ) (role : Role) (begun at : �
   on : ReadsOn front (past at (spaces indent ++ 58 ∷ [])) rest v
   ended : all_ended true rest ≡ true
 
--- a key's colon, or what stands behind a value
+-- a key's colon, or what stands after a value
 abbrev QuotedAfter : List Frame → (text : List ℕ) → Role → (begun : ℕ) → (spaced : Bool) → (at : ℕ) → List ℕ → Value → Type 0
 QuotedAfter fs text role begun spaced at xs v = ColonRead fs text role begun at xs v ⊎ ((is_key_only role ≡ false) × AfterRead fs (Whole (a_text text)) spaced at xs v)
 

@@ -70,7 +70,7 @@ text_read (c ∷ cs) fs b at v e h = elim (cases_Bool (c == 10)) [
 
 -- ---- the start of a line
 
--- behind so many spaces of the line that begins at s: more of them, up to the text's indentation, and the character behind
+-- after so many spaces of the line that begins at s: more of them, up to the text's indentation, and the character after
 record RowFrom (fs : List Frame) (b : BlockText) (s j : ℕ) (xs : List ℕ) (v : Value) : Type 0 where
   pub count : ℕ
   pub column : ℕ
@@ -142,7 +142,7 @@ row_from (c ∷ cs) fs b s j v e h = elim (cases_Bool ((c == 32) && not (is_inde
   | inr f ↦ from_first fs b s j c cs v f e h
 ]
 
--- a line begins: its spaces, up to the text's indentation, and the character behind them
+-- a line begins: its spaces, up to the text's indentation, and the character after them
 pub record RowRead (fs : List Frame) (b : BlockText) (s : ℕ) (xs : List ℕ) (v : Value) : Type 0 where
   pub column : ℕ
   pub first : ℕ
@@ -173,7 +173,7 @@ row_read fs b s c cs v e h =
 
 -- ---- which kind of line begins
 
--- what is taken behind so many spaces of a line
+-- what is taken after so many spaces of a line
 abbrev line_taken : List Frame → BlockText → (s at n c : ℕ) → List ℕ → Result Front Broken
 line_taken fs b s at n c rest =
     if c == 10 then end_blank fs n b at
@@ -304,7 +304,7 @@ row_kind fs b s n c more v p h =
 
 -- ---- what ends the text
 
--- a comment line at a lower column, with lines without content behind it
+-- a comment line at a lower column, with lines without content after it
 abbrev pub EndsText : (limit : ℕ) → Option Note → Type 0
 EndsText limit None = Unit {0}
 EndsText limit (Some n) = (n.indent < limit) × (list_all is_inner n.text ≡ true) × AreGaps n.gaps
@@ -331,7 +331,7 @@ over_end fs b limit s v f h =
     let e : outside_flow fs u s ≡ Ok v = sym (ends_here fs b s) ∙ reads_end (front fs (AtTextLine s b)) s v h in
     record { note = None; rest = []; parts = refl; is = tt; closed = inl (refl, whole_file fs u v s f e); ended = refl }
 
--- behind the spaces of a line that isn't blank
+-- after the spaces of a line that isn't blank
 abbrev beyond_taken : List Frame → Value → (s at c : ℕ) → List ℕ → Result Front Broken
 beyond_taken fs u s at c rest = if c == 9 then no_text at else if c == 35 then begin_comment fs (Whole u) else line_content fs (Whole u) s at c rest
 

@@ -12,7 +12,7 @@ use Rattle.yaml_profile.specs.Layout.{settle, line_content}
 use Rattle.yaml_profile.specs.Reading.{taken, ends}
 use Rattle.yaml_profile.specs.Written.{spaces, word_ends, is_mark}
 
--- the place behind these characters
+-- the place after these characters
 abbrev pub past : ℕ → List ℕ → ℕ
 past at [] = at
 past at (c ∷ cs) = past (at + len_utf8 c) cs
@@ -56,7 +56,7 @@ line_walk f at (c ∷ cs) = taken f.frames f.inner at c (with_returns cs) >>= λ
 abbrev pub ReadsOn : Front → ℕ → List ℕ → Value → Type 0
 ReadsOn f at xs v = (line_walk f at xs >>= λ g. ends g.frames g.inner (past at xs)) ≡ Ok v
 
--- and behind a character that was taken, or wasn't
+-- and after a character that was taken, or wasn't
 abbrev pub OnFrom : Result Front Broken → ℕ → List ℕ → Value → Type 0
 OnFrom (Ok g) at xs v = ReadsOn g at xs v
 OnFrom (Err e) at xs v = ⊥
@@ -80,7 +80,7 @@ step_on fs i at c cs v h = on_from (taken fs i at c (with_returns cs)) (at + len
 pub step_by : (fs : List Frame) (i : Innermost) (r : Result Front Broken) (at c : ℕ) (cs : List ℕ) (v : Value) → taken fs i at c (with_returns cs) ≡ r → ReadsOn (front fs i) at (c ∷ cs) v → OnFrom r (at + len_utf8 c) cs v
 step_by fs i r at c cs v e h = subst (λ (q : Result Front Broken). OnFrom q (at + len_utf8 c) cs v) e (step_on fs i at c cs v h)
 
--- what was taken, with the front behind it
+-- what was taken, with the front after it
 pub record Taken (r : Result Front Broken) (at : ℕ) (xs : List ℕ) (v : Value) : Type 0 where
   pub front : Front
   pub is : r ≡ Ok front
@@ -173,7 +173,7 @@ pub record Begins (r : ℕ → ℕ → List ℕ → Result Front Broken) (s : �
 abbrev pub AtContent : List Frame → Waiting → (s : ℕ) → (rest : List ℕ) → Value → Type 0
 AtContent fs w s rest v = ((rest ≡ []) × (ends fs (AtLine s w) s ≡ Ok v)) ⊎ Begins (λ at c more. line_content fs w s at c more) s rest v
 
--- behind a whole value a line with content is no mark, and closes blocks
+-- after a whole value a line with content is no mark, and closes blocks
 abbrev pub close_line : List Frame → Value → (start at c : ℕ) → (rest : List ℕ) → Result Front Broken
 close_line fs u start at c rest = if ((at - start) == 0) && begins_mark c rest then left_out at else settle fs u start at c rest
 

@@ -1,4 +1,4 @@
--- What is read of a block scalar, from its sign to the line that ends it.
+-- What is read of a block scalar, from its indicator to the line that ends it.
 use Rattle.std.proofs.Common.{◌≡◌, ℕ, zero, suc, ◌+◌, ◌<◌, ◌≤◌, Bool, true, false, not, ◌&&◌, ◌||◌, ◌==◌, nat_le, List, [], ◌∷◌, ◌++◌, length, Option, Some, None, inl, inr, if◌then◌else◌, refl, sym, ap, subst, ◌∙◌, arith, append_assoc, append-nil}
 use Rattle.std.specs.List.{list_all}
 use Rattle.std.specs.Char.{len_utf8}
@@ -48,7 +48,7 @@ text_line_is column c text rest more f i p m =
     let k : ((column == 0) && is_mark true c text) ≡ false = ap (λ (b : Bool). (column == 0) && b) (sym e) ∙ m in
     rw (f, i, k) refl
 
--- ---- lines behind the first
+-- ---- lines after the first
 
 known_test : (o : Option ℕ) (k n : ℕ) (none : Bool) → o ≡ Some k → elim o [ None ↦ none | Some i ↦ nat_le i n ] ≡ nat_le k n
 known_test o k n none e = rw e refl
@@ -73,7 +73,7 @@ text_indent : (cs : List ℕ) (b : BlockText) → (go_all b cs).indent ≡ b.ind
 text_indent [] b = refl
 text_indent (c ∷ cs) b = text_indent cs (go_on b c)
 
--- the lines behind the first one, and what ends them
+-- the lines after the first one, and what ends them
 pub record MoreRead (fs : List Frame) (k : ℕ) (b : BlockText) (s : ℕ) (xs : List ℕ) (v : Value) : Type 0 where
   pub lines : List TextLine
   pub rest : List ℕ
@@ -114,7 +114,7 @@ more_line fs k c text b s xs v i m =
       over = subst (λ (p : ℕ). TextOver fs k u p m.rest v) (sym place) m.over;
     }
 
--- how reading goes on behind a line, where no more is left than these characters
+-- how reading goes on after a line, where no more is left than these characters
 abbrev MoreOn : List Frame → (k : ℕ) → (xs : List ℕ) → Value → Type 0
 MoreOn fs k xs v = (d : BlockText) (p : ℕ) (ys : List ℕ) → d.indent ≡ Some k → all_ended false ys ≡ true → length ys ≤ length xs → OnText fs d p ys v → MoreRead fs k d p ys v
 
@@ -180,7 +180,7 @@ abbrev limit_of : ℕ → Option Rows → ℕ
 limit_of least None = least
 limit_of least (Some r) = r.indent
 
--- blank lines, the lines of text, and what ends them, behind these blank lines
+-- blank lines, the lines of text, and what ends them, after these blank lines
 pub record RowsRead (fs : List Frame) (least : ℕ) (folded : Bool) (chomp : Chomp) (lead : List ℕ) (s : ℕ) (xs : List ℕ) (v : Value) : Type 0 where
   pub blanks : List ℕ
   pub rows : Option Rows
@@ -295,7 +295,7 @@ note_is least rows None h = tt
 note_is least None (Some n) h = h
 note_is least (Some r) (Some n) h = h
 
--- the parts of a block scalar behind one another
+-- the parts of a block scalar after one another
 whole_parts : (c : ℕ) (ks es bs rs ns rest : List ℕ) → c ∷ (ks ++ (es ++ (bs ++ (rs ++ (ns ++ rest))))) ≡ (((c ∷ ks) ++ (es ++ (bs ++ rs))) ++ ns) ++ rest
 whole_parts c ks es bs rs ns rest = simp append_assoc refl
 
@@ -306,7 +306,7 @@ header_spelled : (folded : Bool) (chomp : Chomp) → spell_header folded chomp �
 header_spelled true chomp = refl
 header_spelled false chomp = refl
 
--- the sign, with its code
+-- the indicator, with its code
 abbrev sign_of : Bool → ℕ
 sign_of folded = if folded then 62 else 124
 
@@ -314,7 +314,7 @@ sign_len : (folded : Bool) → len_utf8 (sign_of folded) ≡ 1
 sign_len true = refl
 sign_len false = refl
 
--- a block scalar, behind its sign
+-- a block scalar, after its indicator
 pub block_text_read : (fs : List Frame) (place : Option ℕ) (least level at : ℕ) (cs : List ℕ) (v : Value) (folded : Bool) → is_flow fs ≡ false → IsLeast least fs → ((n : ℕ) → is_deeper n fs ≡ false → n < least)
     → all_ended true cs ≡ true → ReadsOn (front fs (InHeader (no_lines folded) false false)) (at + 1) cs v → LeafRead fs place least level at ((if folded then 62 else 124) ∷ cs) v
 block_text_read fs place least level at cs v folded f d low e h =

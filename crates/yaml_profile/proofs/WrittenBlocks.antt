@@ -24,7 +24,7 @@ past_spaces (suc n) s = past_spaces n (s + 1) ∙ omega arith
 pub column_is : (n s : ℕ) → past s (spaces n) - s ≡ n
 column_is n s = rw (past_spaces n s) (omega arith)
 
--- ---- the front of a text behind a dash or colon
+-- ---- the front of a text after a dash or colon
 
 pub ending_word : (e : Ending) (rest : List ℕ) → IsApart e → ends_word (with_returns (spell_ending e ++ rest)) ≡ true
 ending_word (Bare zero) rest a = refl
@@ -114,7 +114,7 @@ nothing_wait (Bare n) fs s m sp at h a = refl
 nothing_wait (Noted zero text) fs s m sp at h a = absurd (omega arith)
 nothing_wait (Noted (suc n) text) fs s m sp at h a = refl
 
--- behind a key's colon, a dash, a bracket or a comma, up to the line of a value
+-- after a key's colon, a dash, a bracket or a comma, up to the line of a value
 pub record Down (fs : List Frame) (s : ℕ) (m sp : Bool) (at : ℕ) (xs : List ℕ) : Type 0 where
   pub wait : Waiting
   pub pending : is_pending wait ≡ true

@@ -163,7 +163,7 @@ second_mark true false (e ∷ es) more c d = third_no_mark c d 10 more refl refl
 second_mark false true rest more c d = third_no_mark c d 13 (10 ∷ more) refl refl
 second_mark false false rest more c d = third_no_mark c d 10 more refl refl
 
--- a character that ends no line, in front of what is clear
+-- a character that ends no line, before what is clear
 record Clear (c : ℕ) (cs : List ℕ) (cut : Bool) (returns : ℕ → Bool) (line : ℕ) : Type 0 where
   here : ((c == 13) && begins_with 10 (with_ends cut returns line cs)) ≡ false
   more : is_clear cut returns line cs ≡ true
@@ -264,7 +264,7 @@ fits_feed (InHeaderComment b) more rest f = tt
 fits_feed (AtTextLine s b) more rest f = tt
 fits_feed (InTextLine b) more rest f = tt
 
--- the end of a file may be cut off behind these
+-- the end of a file may be cut off after these
 abbrev pub may_cut : (begun : Bool) → List ℕ → Bool
 may_cut begun [] = true
 may_cut begun (c ∷ cs) = ends_begun begun (c ∷ cs)

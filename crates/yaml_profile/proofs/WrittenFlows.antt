@@ -21,12 +21,12 @@ use Rattle.yaml_profile.proofs.WrittenKeys.{not_full, Starts, Started, sign_star
 use Rattle.yaml_profile.proofs.WrittenBlocks.{Kept, gaps_wait, Down, down}
 use Rattle.yaml_profile.proofs.WrittenParagraphs.{Plained, plain_goes, lines_after}
 
--- behind these characters stands an item of a flow list
+-- after these characters stands an item of a flow list
 pub record Ends (from : List ℕ → Result Front Broken) (at : ℕ) (xs : List ℕ) (vs : List Value) (fs : List Frame) (v : Value) : Type 0 where
   pub comma : (rest : List ℕ) → from (xs ++ 44 ∷ rest) ≡ line_walk (front (InFlow (vs ++ v ∷ []) ∷ fs) (AtValue 0 false false)) (past at xs + 1) rest
   pub bracket : (rest : List ℕ) → from (xs ++ 93 ∷ rest) ≡ line_walk (front fs (AfterValue (Whole (a_list (items_from (vs ++ v ∷ [])))) false)) (past at xs + 1) rest
 
--- this front takes the comma and the bracket behind the item
+-- this front takes the comma and the bracket after the item
 pub record Ready (i : Innermost) (at : ℕ) (vs : List Value) (fs : List Frame) (v : Value) : Type 0 where
   pub comma : (rest : List ℕ) → taken (InFlow vs ∷ fs) i at 44 rest ≡ Ok (front (InFlow (vs ++ v ∷ []) ∷ fs) (AtValue 0 false false))
   pub bracket : (rest : List ℕ) → taken (InFlow vs ∷ fs) i at 93 rest ≡ Ok (front fs (AfterValue (Whole (a_list (items_from (vs ++ v ∷ [])))) false))
@@ -282,7 +282,7 @@ empty_closes p fs role level at k l e h =
           ∙ (goes gs d.inner g (past (at + 1) xs) 93 rest (d.closes (with_returns rest)) ∙ ap (λ q. line_walk g q rest) (sym (past_append xs (93 ∷ []) (at + 1))))));
     }
 
--- the elements behind a bracket at this place
+-- the elements after a bracket at this place
 abbrev AllEnd : Elements → List Frame → ℕ → Type 0
 AllEnd es fs at = Ends (line_walk (front (InFlow [] ∷ fs) (AtValue 0 false false)) (at + 1)) (at + 1) (spell_elements es) (before_last es) fs (last_element es)
 
@@ -339,7 +339,7 @@ flow_started (Empty p) place flow ended least level h = signed 91 (spell_pad p +
 flow_started (Listed es) place flow ended least level h = signed 91 (spell_elements es ++ 93 ∷ []) place flow ended refl refl refl refl refl refl refl refl
 flow_started (Trailed es p) place flow ended least level h = signed 91 (spell_elements es ++ 44 ∷ (spell_pad p ++ 93 ∷ [])) place flow ended refl refl refl refl refl refl refl refl
 
--- behind a bracket or comma
+-- after a bracket or comma
 item_behind : (x : Flow) (p q : Pad) (vs : List Value) (fs : List Frame) (least level at : ℕ) → IsPad p → IsPad q → IsFlow (place_behind p) true (ends_before q) least level x
     → Ends (begin_run (InFlow vs ∷ fs) ValueOnly (past at (spell_pad p))) (past at (spell_pad p)) (spell_flow x ++ spell_pad q) vs fs (flow_value x)
     → Ends (line_walk (front (InFlow vs ∷ fs) (AtValue 0 false false)) at) at (spell_pad p ++ (spell_flow x ++ spell_pad q)) vs fs (flow_value x)
@@ -366,7 +366,7 @@ abbrev Deep : ℕ → List Frame → Type 0
 Deep least fs = (k : ℕ) → least ≤ k → is_deeper k fs ≡ true
 
 mutual
-  -- an item with what stands behind it
+  -- an item with what stands after it
   item_ends : (x : Flow) (q : Pad) (place : Option ℕ) (vs : List Value) (fs : List Frame) (least level at : ℕ) → IsPad q → IsFlow place true (ends_before q) least level x → length (InFlow vs ∷ fs) ≡ level → Deep least fs
       → Ends (begin_run (InFlow vs ∷ fs) ValueOnly at) at (spell_flow x ++ spell_pad q) vs fs (flow_value x)
   item_ends (Text (Plain c cs ls)) q place vs fs least level at g h e d =

@@ -152,7 +152,7 @@ pub record Starts (place : Option ℕ) (flow : Bool) (c : ℕ) (rest : List ℕ)
 pub line_content_of : (n c : ℕ) (rest : List ℕ) → Starts (Some n) false c rest → Content n c rest
 line_content_of n c rest h = record { space = h.space; feed = h.feed; tab = h.tab n refl; hash = h.hash; return = h.return; mark = h.mark n refl refl }
 
--- a sign that begins nothing but one value
+-- an indicator that begins nothing but one value
 pub sign_starts : (place : Option ℕ) (flow : Bool) (c : ℕ) (rest : List ℕ) → (c == 32) ≡ false → (c == 10) ≡ false → (c == 9) ≡ false → (c == 35) ≡ false → (c == 13) ≡ false → (c == 45) ≡ false → (c == 46) ≡ false → (c == 93) ≡ false
     → Starts place flow c rest
 sign_starts place flow c rest a b d e f g h i = record {
@@ -193,7 +193,7 @@ feed_no_mark c d e more ended h = subst (λ (k : ℕ). is_mark ended c (k ∷ e 
 second_feed_no_mark : (c d e : ℕ) (more : List ℕ) (ended : Bool) → (e == 10) ≡ true → is_mark ended c (d ∷ e ∷ more) ≡ false
 second_feed_no_mark c d e more ended h = subst (λ (k : ℕ). is_mark ended c (d ∷ k ∷ more) ≡ false) (is_that e 10 h) (no_third c d 10 (word_ends ended more) refl refl)
 
--- what stands behind a text isn't the rest of a mark
+-- what stands after a text isn't the rest of a mark
 pub mark_is : (c : ℕ) (cs rest : List ℕ) (ended : Bool) → After ended rest → begins_mark c (with_returns (cs ++ rest)) ≡ is_mark ended c cs
 mark_is c [] rest ended a = no_first_mark c (with_returns rest) a.dash a.dot
 mark_is c (d ∷ []) rest ended a = elim (cases_Bool (d == 10)) [
@@ -239,7 +239,7 @@ plain_starts place flow ended c cs rest h a =
       mark = λ n q r. mark_of flow ended n c cs rest a (line n q).1 r;
     }
 
--- such characters, before what may stand behind them
+-- such characters, before what may stand after them
 pub record Started (place : Option ℕ) (flow ended : Bool) (xs : List ℕ) : Type 0 where
   pub first : ℕ
   pub tail : List ℕ
@@ -270,7 +270,7 @@ key_started (SingleKey cs n) place h = record {
   starts = λ rest a. sign_starts place false 39 (with_returns (((spell_singles cs ++ 39 ∷ []) ++ spaces n) ++ rest)) refl refl refl refl refl refl refl refl;
 }
 
--- behind a colon, a dash, a bracket or a comma
+-- after a colon, a dash, a bracket or a comma
 pub value_taken : (place : Option ℕ) (flow : Bool) (fs : List Frame) (s : ℕ) (m sp : Bool) (at c : ℕ) (rest : List ℕ) → Starts place flow c rest → taken fs (AtValue s m sp) at c rest ≡ begin_value fs (role_of m (at - s)) at c rest
 unfolding taken in_at_value
 value_taken place flow fs s m sp at c rest h = rw (h.space, h.feed, h.hash, h.right) refl

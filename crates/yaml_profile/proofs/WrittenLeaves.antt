@@ -1,4 +1,4 @@
--- How values that are no blocks are read, up to the line behind them.
+-- How values that are no blocks are read, up to the line after them.
 use Rattle.std.proofs.Common.{◌≡◌, ℕ, ◌<◌, ◌≤◌, Bool, true, false, List, ◌++◌, length, Option, Some, None, Result, refl, sym, ap, subst, ◌∙◌, arith, append-nil, append_assoc, inl, inr}
 use Rattle.edt_base.specs.YamlData.{Value, a_text}
 use Rattle.yaml_profile.specs.declared.stop.Broken.{Broken}
@@ -55,7 +55,7 @@ lines_run false chomp ys place fs gs i role at rest step =
     let zs : List ℕ = (spell_chomp chomp ++ ys) ++ rest in
     goes_by fs i (begin_value gs role at 124 (with_returns zs)) at 124 zs (step 124 (with_returns zs) (sign_starts place false 124 (with_returns zs) refl refl refl refl refl refl refl refl))
 
--- nothing has to be known of what stands behind the line ends
+-- nothing has to be known of what stands after the line ends
 pub leaf_run : (l : Leaf) (place : Option ℕ) (least level : ℕ) (fs gs : List Frame) (i : Innermost) (role : Role) (at : ℕ) (rest : List ℕ) → IsLeaf place least level l
     → ((c : ℕ) (cs : List ℕ) → Starts place false c cs → taken fs i at c cs ≡ begin_value gs role at c cs) → line_walk (front fs i) at (spell_leaf l ++ rest) ≡ begin_run gs role at (spell_leaf l ++ rest)
 leaf_run (Flowing x e gaps) place least level fs gs i role at rest h step =

@@ -109,7 +109,7 @@ gaps_read (e ∷ es) fs s w at same h =
     let q : Reads (front fs (AtLine m r.wait)) m (spell_gaps es) fs (value_so_far r.wait) = gaps_read es fs m r.wait m refl h.1 in
     reads_on (front fs (AtLine s w)) at (spell_ending e) (spell_gaps es) fs fs (value_so_far w) (value_so_far w) r (reads_same (front fs (AtLine m r.wait)) m (spell_gaps es) fs (value_so_far r.wait) (value_so_far w) r.is q)
 
--- what is read, and lines without content behind it
+-- what is read, and lines without content after it
 pub with_gaps : (es : List Ending) (f : Front) (at : ℕ) (xs : List ℕ) (fs : List Frame) (v : Value) → AreGaps es → Reads f at xs fs v → Reads f at (xs ++ spell_gaps es) fs v
 with_gaps es f at xs fs v h r =
     let m : ℕ = past at xs in
@@ -132,7 +132,7 @@ pub value_spaces : (n : ℕ) (fs : List Frame) (s : ℕ) (m sp : Bool) (at : ℕ
 value_spaces zero fs s m sp at rest = refl
 value_spaces (suc n) fs s m sp at rest = some_spaces n fs s m sp at rest
 
--- behind a key's colon or a dash: nothing
+-- after a key's colon or a dash: nothing
 unfoldable pub nothing_reads : (e : Ending) (fs : List Frame) (s : ℕ) (m sp : Bool) (at : ℕ) → IsEnding e → IsApart e → Reads (front fs (AtValue s m sp)) at (spell_ending e) fs null
 nothing_reads (Bare n) fs s m sp at h a = record {
   wait = Nothing;
@@ -168,7 +168,7 @@ pub plain_hash : (fs : List Frame) (t : Folding) (r : Role) (begun at : ℕ) (re
 unfolding taken in_plain
 plain_hash fs t r begun at rest k = rw k refl
 
--- behind a plain text
+-- after a plain text
 unfoldable pub plain_ends : (e : Ending) (fs : List Frame) (t : Folding) (r : Role) (begun : ℕ) (sp : Bool) (at : ℕ) → is_key_only r ≡ false → IsEnding e → IsApart e
     → Reads (front fs (InPlain t r begun sp)) at (spell_ending e) fs (scalar_of t.text)
 plain_ends (Bare n) fs t r begun sp at k h a =
@@ -209,7 +209,7 @@ pub quoted_hash : (fs : List Frame) (x : List ℕ) (r : Role) (begun at : ℕ) (
 unfolding taken in_after_quoted in_after_value
 quoted_hash fs x r begun at rest k = rw k refl
 
--- behind a quoted text
+-- after a quoted text
 unfoldable pub quoted_ends : (e : Ending) (fs : List Frame) (x : List ℕ) (r : Role) (begun at : ℕ) → is_key_only r ≡ false → IsEnding e → IsApart e
     → Reads (front fs (AfterQuoted x r begun false)) at (spell_ending e) fs (a_text x)
 quoted_ends (Bare n) fs x r begun at k h a = record {
@@ -273,7 +273,7 @@ pub single_begins : (fs : List Frame) (r : Role) (at : ℕ) (rest : List ℕ) �
 unfolding begin_value
 single_begins fs r at rest = refl
 
--- the first character where a value may begin, behind a space
+-- the first character where a value may begin, after a space
 abbrev pub role_of : (m : Bool) (column : ℕ) → Role
 role_of m column = if m then Either column else ValueOnly
 
@@ -289,7 +289,7 @@ begin_run fs role at (c ∷ cs) = begin_value fs role at c (with_returns cs) >>=
 pub begun : (fs : List Frame) (role : Role) (g : Front) (at c : ℕ) (cs : List ℕ) → begin_value fs role at c (with_returns cs) ≡ Ok g → begin_run fs role at (c ∷ cs) ≡ line_walk g (at + len_utf8 c) cs
 begun fs role g at c cs e = ap (λ (r : Result Front Broken). r >>= λ h. line_walk h (at + len_utf8 c) cs) e
 
--- texts from their first character to behind their last
+-- texts from their first character to after their last
 pub line_goes : (c : ℕ) (cs : List ℕ) (fs : List Frame) (role : Role) (flow ended : Bool) (at : ℕ) (rest : List ℕ) → begins_plain ended c cs ≡ true → stays_plain flow false ended cs ≡ true → is_flow fs ≡ flow → ends_word (with_returns rest) ≡ ended
     → begin_run fs role at ((c ∷ cs) ++ rest) ≡ line_walk (front fs (InPlain (with_chars nothing_yet (c ∷ cs)) role at (spaced_after false cs))) (past at (c ∷ cs)) rest
 line_goes c cs fs role flow ended at rest b l f w =
@@ -322,7 +322,7 @@ begun_behind fs role g at xs ys v step r = record {
   run = λ rest. ap (λ zs. begin_run fs role at zs) (append_assoc xs ys rest) ∙ (step rest ∙ (r.run rest ∙ ap (λ m. line_walk (front fs (AtLine m r.wait)) m rest) (sym (past_append xs ys at))));
 }
 
--- and lines without content behind it
+-- and lines without content after it
 pub begun_gaps : (es : List Ending) (fs : List Frame) (role : Role) (at : ℕ) (xs : List ℕ) (v : Value) → AreGaps es → Begun fs role at xs v → Begun fs role at (xs ++ spell_gaps es) v
 begun_gaps es fs role at xs v h r =
     let m : ℕ = past at xs in

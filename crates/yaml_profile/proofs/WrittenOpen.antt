@@ -1,4 +1,4 @@
--- What is open behind a block of a written file, and how it ends at the next line.
+-- What is open after a block of a written file, and how it ends at the next line.
 use Rattle.std.proofs.Common.{◌≡◌, ℕ, suc, ◌-◌, ◌<◌, ◌≤◌, Bool, true, false, nat_lt, List, [], ◌∷◌, ◌++◌, ◌⊎◌, Option, Some, None, refl, subst, ◌∙◌, arith, inl, inr}
 use Rattle.std.proofs.lemmas.Bool.{cases_Bool}
 use Rattle.std.proofs.lemmas.Bool.Decides.{nat_tests}
@@ -18,7 +18,7 @@ items_before (FirstItem i) = []
 items_before (NextItem is i) = item_values is
 
 abbrev mutual
-  -- the collections that are open behind these, on those around them
+  -- the collections that are open after these, on those around them
   pub open_node : Node → List Frame → List Frame
   open_node (Nothing e gaps) fs = fs
   open_node (Beside n l) fs = fs

@@ -23,7 +23,7 @@ use Rattle.yaml_profile.proofs.ReadSteps.{is_that}
 
 -- ---- fronts that differ in places alone
 
--- the same number of characters behind the start of a line
+-- the same number of characters after the start of a line
 abbrev pub Placed : (s at r to n : ℕ) → Type 0
 Placed s at r to n = (at ≡ s + n) × (to ≡ r + n)
 
@@ -47,7 +47,7 @@ dashes zero rest = true
 dashes (suc n) [] = false
 dashes (suc n) (c ∷ cs) = (c == 45) && dashes n cs
 
--- what can stand in front of these characters
+-- what can stand before these characters
 abbrev pub Fits : List ℕ → Innermost → Type 0
 Fits rest (InMark left) = (0 < left) × (dashes left rest ≡ true)
 Fits rest (AtBlankEnd n b) = ⊥
@@ -64,7 +64,7 @@ Same begun at to rest (Ok g) (Err e) = ⊥
 Same begun at to rest (Err e) (Ok h) = ⊥
 Same begun at to rest (Err e) (Err g) = Unit {0}
 
--- behind one character that ends no line
+-- after one character that ends no line
 abbrev pub Goes : (at to c : ℕ) → (rest : List ℕ) → Result Front Broken → Result Front Broken → Type 0
 Goes at to c rest x y = Same true (at + len_utf8 c) (to + len_utf8 c) rest x y
 
@@ -105,7 +105,7 @@ plain_key_same : (at to c : ℕ) (rest : List ℕ) (fs : List Frame) (role : Rol
 unfolding plain_key
 plain_key_same at to c rest fs role key b x d y = elim (cases_Bool (bytes_eq key (codes "<<") && not (is_value_only role))) [ inl e ↦ rw e tt | inr e ↦ rw e (key_same at to c rest fs role key b x d y) ]
 
--- ---- flow lists, and what stands behind a value
+-- ---- flow lists, and what stands after a value
 
 after_item_same : (at to c : ℕ) (rest : List ℕ) (fs : List Frame) (v : Value) → Goes at to c rest (after_item fs v at c) (after_item fs v to c)
 unfolding after_item

@@ -233,7 +233,7 @@ closing : (fs : List Frame) (t : Folding) (r : Role) (begun at : ℕ) (rest : Li
 unfolding taken in_double
 closing fs t r begun at rest = refl
 
--- from behind the opening quote to behind the closing one
+-- from after the opening quote to after the closing one
 pub quoted_goes : (xs : List Inner) (fs : List Frame) (r : Role) (begun at : ℕ) (rest : List ℕ) → list_all is_inner_quoted xs ≡ true → MayEnd is_line_end r xs
     → line_walk (front fs (InDouble nothing_yet r begun)) at ((spell_inners xs ++ 34 ∷ []) ++ rest)
     ≡ line_walk (front fs (AfterQuoted (double_text xs) (role_then is_line_end r xs) begun false)) (past at (spell_inners xs ++ 34 ∷ [])) rest
@@ -298,7 +298,7 @@ singles_go (c ∷ cs) fs t r begun at rest m =
     ∙ (one_goes c fs t r begun at (spell_singles cs ++ rest) (first_end is_feed r c cs m)
     ∙ (singles_go cs fs u q begun (past at (spell_one c)) rest (more_ends is_feed r c cs m) ∙ ap (λ p. line_walk i p rest) (sym (past_append (spell_one c) (spell_singles cs) at))))
 
--- from behind the opening quote to behind the closing one, which no other follows
+-- from after the opening quote to after the closing one, which no other follows
 pub single_goes : (cs : List ℕ) (fs : List Frame) (r : Role) (begun at : ℕ) (rest : List ℕ) → MayEnd is_feed r cs → begins_with 39 (with_returns rest) ≡ false
     → line_walk (front fs (InSingle nothing_yet r begun)) at ((spell_singles cs ++ 39 ∷ []) ++ rest)
     ≡ line_walk (front fs (AfterQuoted (single_text cs) (role_then is_feed r cs) begun false)) (past at (spell_singles cs ++ 39 ∷ [])) rest

@@ -82,7 +82,7 @@ key_then : (k : Key) (fs gs : List Frame) (role : Role) (at : ℕ) (rest : List 
     → r ≡ Ok (front gs (AtValue 0 false false)) → begin_run fs role at (spell_key k ++ 58 ∷ rest) ≡ line_walk (front gs (AtValue 0 false false)) (past at (spell_key k ++ 58 ∷ [])) rest
 key_then k fs gs role at rest r e h = e ∙ ap (λ (q : Result Front Broken). q >>= λ g. line_walk g (past at (spell_key k ++ 58 ∷ [])) rest) h
 
--- a key with its colon, and what stands behind it
+-- a key with its colon, and what stands after it
 colon_parts : (k : Key) (ys : List ℕ) → spell_key k ++ 58 ∷ ys ≡ (spell_key k ++ 58 ∷ []) ++ ys
 colon_parts k ys = sym (append_assoc (spell_key k) (58 ∷ []) ys)
 

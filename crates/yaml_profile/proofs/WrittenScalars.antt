@@ -337,7 +337,7 @@ rows_go (Some r) fs least b s rest e d a =
     ∙ (more_go r.more fs y p k rest (go_all_indent r.text x ∙ first_indent b k r.first) a.3
     ∙ ap (λ q. line_walk (front fs (AtTextLine q (with_rows b (Some r)))) q rest) (sym (past_append ts ms s))))
 
--- a block scalar, from its sign on
+-- a block scalar, from its indicator on
 pub lines_go : (l : Lines) (fs : List Frame) (least : ℕ) (role : Role) (at : ℕ) (rest : List ℕ) → is_key_only role ≡ false → is_flow fs ≡ false → ((k : ℕ) → least ≤ k → is_deeper k fs ≡ true) → AreLines least l
     → begin_run fs role at (spell_lines l ++ rest) ≡ line_walk (front fs (AtTextLine (past at (spell_lines l)) (text_of l))) (past at (spell_lines l)) rest
 lines_go l fs least role at rest v f d a =

@@ -44,7 +44,7 @@ space_value : (fs : List Frame) (s : ℕ) (m sp : Bool) (at : ℕ) (rest : List 
 unfolding taken in_at_value
 space_value fs s m sp at rest = refl
 
--- behind at least one space
+-- after at least one space
 pub spaces_value : (n : ℕ) (fs : List Frame) (s : ℕ) (m : Bool) (at : ℕ) (rest : List ℕ)
     → line_walk (front fs (AtValue s m true)) at (spaces n ++ rest) ≡ line_walk (front fs (AtValue s m true)) (past at (spaces n)) rest
 spaces_value zero fs s m at rest = refl
@@ -100,7 +100,7 @@ comment_goes (c ∷ cs) fs w at rest a =
 pub return_ahead : (c : ℕ) (rest : List ℕ) → ((c == 13) && begins_with 10 (with_returns rest)) ≡ false
 return_ahead c rest = elim (cases_Bool (c == 13)) [ inl e ↦ rw e (no_feed_ahead rest) | inr e ↦ rw e refl ]
 
--- ---- what stands behind a text
+-- ---- what stands after a text
 
 pub record After (ended : Bool) (rest : List ℕ) : Type 0 where
   pub word : ends_word (with_returns rest) ≡ ended

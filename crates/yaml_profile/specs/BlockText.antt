@@ -1,4 +1,4 @@
--- A block scalar: the text of the lines behind `|` or `>`.
+-- A block scalar: the text of the lines after `|` or `>`.
 use Rattle.std.specs.Prelude.{ℕ, zero, suc, ◌-◌, Bool, true, false, not, ◌&&◌, ◌==◌, List, [], ◌∷◌, ◌++◌, Option, Some, None, if◌then◌else◌}
 use Rattle.std.specs.Char.{encode_utf8}
 use Rattle.yaml_profile.specs.declared.block_text.Chomp.{Chomp}
@@ -18,23 +18,39 @@ pub record BlockText : Type 0 where
   -- whether it has a line, and whether the last one begins with a space
   pub begun : Bool
   pub spaced : Bool
-  -- the line feeds of the empty lines behind it
+  -- the line feeds of the empty lines after it
   pub feeds : List ℕ
 
 abbrev pub no_lines : Bool → BlockText
-no_lines folded = record { folded = folded; chomp = Clip; leading = []; indent = None; text = []; begun = false; spaced = false; feeds = [] }
+no_lines folded = record {
+  folded = folded;
+  chomp = Clip;
+  leading = [];
+  indent = None;
+  text = [];
+  begun = false;
+  spaced = false;
+  feeds = [];
+}
 
 abbrev pub feeds_or_space : List ℕ → List ℕ
 feeds_or_space [] = 32 ∷ []
 feeds_or_space (f ∷ fs) = f ∷ fs
 
--- what stands between the last line and one that begins with a space or doesn't: a line end folds where neither begins with one
+-- what stands between the last line and one that begins with a space or doesn't: a line end folds where neither begins
+-- with one
 abbrev pub line_joint : BlockText → Bool → List ℕ
-line_joint b spaced = if not b.begun then b.feeds else if b.folded && not b.spaced && not spaced then feeds_or_space b.feeds else 10 ∷ b.feeds
+line_joint b spaced = if not b.begun then b.feeds else if b.folded && not b.spaced && not spaced
+    then feeds_or_space b.feeds else 10 ∷ b.feeds
 
 -- a line of text begins with this character
 abbrev pub begin_line : BlockText → ℕ → BlockText
-begin_line b c = record b { text = b.text ++ line_joint b (c == 32) ++ encode_utf8 c; begun = true; spaced = c == 32; feeds = [] }
+begin_line b c = record b {
+  text = b.text ++ line_joint b (c == 32) ++ encode_utf8 c;
+  begun = true;
+  spaced = c == 32;
+  feeds = [];
+}
 
 -- and goes on with this one
 abbrev pub go_on : BlockText → ℕ → BlockText
@@ -63,7 +79,7 @@ lead_in b indent (s ∷ ss) = lead_in (spaces_line b (s - indent)) indent ss
 unfoldable pub first_line : BlockText → ℕ → ℕ → BlockText
 first_line b indent c = begin_line (lead_in (record b { indent = Some indent; leading = [] }) indent b.leading) c
 
--- a blank line of so many spaces: before the first line of text it waits, and behind it is empty
+-- a blank line of so many spaces: before the first line of text it waits, and after it is empty
 abbrev pub blank_line : BlockText → ℕ → BlockText
 blank_line b spaces = elim b.indent [ None ↦ record b { leading = b.leading ++ spaces ∷ [] } | Some i ↦ empty_line b ]
 
@@ -72,7 +88,7 @@ abbrev pub feed_each : List ℕ → List ℕ
 feed_each [] = []
 feed_each (s ∷ ss) = 10 ∷ feed_each ss
 
--- the value: of the line ends behind its text one stays, none or all. Without text it has only blank lines
+-- the value: of the line ends after its text one stays, none or all. Without text it has only blank lines
 abbrev pub end_of : Chomp → Bool → List ℕ → List ℕ
 end_of Strip begun feeds = []
 end_of Clip begun feeds = if begun then 10 ∷ [] else []

@@ -4,7 +4,7 @@ use Rattle.std.specs.Char.{encode_utf8}
 use Rattle.yaml_profile.specs.declared.folding.Seam.{Seam}
 use Rattle.yaml_profile.specs.declared.folding.Seam.TheVariants.{Inside, Folds, Joins}
 
--- a text so far; the blanks behind it on its line; what ended the line, and the line feeds of the blank lines since then
+-- a text so far; the blanks after it on its line; what ended the line, and the line feeds of the blank lines since then
 pub record Folding : Type 0 where
   pub text : List ℕ
   pub blanks : List ℕ
@@ -14,7 +14,7 @@ pub record Folding : Type 0 where
 abbrev pub nothing_yet : Folding
 nothing_yet = record { text = []; blanks = []; seam = Inside; feeds = [] }
 
--- a line end folds to one space and k blank lines to k line feeds; behind a backslash there is no space
+-- a line end folds to one space and k blank lines to k line feeds; after a backslash there is no space
 abbrev pub joint : Seam → List ℕ → List ℕ
 joint Inside feeds = []
 joint Folds [] = 32 ∷ []
@@ -45,6 +45,6 @@ after_line _ t = record { text = t.text; blanks = []; seam = t.seam; feeds = t.f
 abbrev pub end_line : Folding → Folding
 end_line t = after_line t.seam t
 
--- the line ends behind a backslash: the blanks before that stay
+-- the line ends after a backslash: the blanks before that stay
 abbrev pub join_line : Folding → Folding
 join_line t = record { text = caught_up t; blanks = []; seam = Joins; feeds = [] }

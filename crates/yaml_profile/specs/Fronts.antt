@@ -27,27 +27,28 @@ pub data Waiting : Type 0 where
 pub data Innermost : Type 0 where
   -- the spaces of a line that begins at this place
   AtLine : (start : ℕ) → Waiting → Innermost
-  -- a value may begin, on the line that begins at this place: whether it may be a map, and whether a space stands before
+  -- a value may begin, on the line that begins at this place: whether it may be a map, and whether a space stands
+  -- before
   AtValue : (start : ℕ) → (mapped spaced : Bool) → Innermost
   InPlain : Folding → Role → (at : ℕ) → (spaced : Bool) → Innermost
   InSingle : Folding → Role → (at : ℕ) → Innermost
-  -- in front of the second of two single quotes
+  -- before the second of two single quotes
   AtSecondQuote : Folding → Role → (at : ℕ) → Innermost
   InDouble : Folding → Role → (at : ℕ) → Innermost
-  -- behind a backslash
+  -- after a backslash
   InEscape : Folding → Role → (at : ℕ) → Innermost
   -- in the digits of `\x` and `\u`: how many are left, and the number so far
   InDigits : Folding → Role → (at left number : ℕ) → Innermost
   AfterQuoted : (text : List ℕ) → Role → (at : ℕ) → (spaced : Bool) → Innermost
-  -- behind `]` or `---`, where the line has nothing more but a comment
+  -- after `]` or `---`, where the line has nothing more but a comment
   AfterValue : Waiting → (spaced : Bool) → Innermost
   InComment : Waiting → Innermost
-  -- in front of so many more dashes of a `---`
+  -- before so many more dashes of a `---`
   InMark : (left : ℕ) → Innermost
-  -- behind `|` or `>`: whether a sign, and whether a space stood there
+  -- after `|` or `>`: whether an indicator, and whether a space stood there
   InHeader : BlockText → (signed spaced : Bool) → Innermost
   InHeaderComment : BlockText → Innermost
-  -- the spaces of a line of a block scalar, and behind the spaces of a blank one
+  -- the spaces of a line of a block scalar, and after the spaces of a blank one
   AtTextLine : (start : ℕ) → BlockText → Innermost
   AtBlankEnd : (spaces : ℕ) → BlockText → Innermost
   InTextLine : BlockText → Innermost

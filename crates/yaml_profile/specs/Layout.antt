@@ -19,7 +19,8 @@ abbrev pub is_dash : (c : ℕ) → (rest : List ℕ) → Bool
 is_dash c rest = (c == 45) && ends_word rest
 
 -- an item of the list at this column, if a dash and a space or line end stand there
-unfoldable pub next_item : List Frame → (column : ℕ) → List Value → (start at c : ℕ) → (rest : List ℕ) → Result Front Broken
+unfoldable pub next_item : List Frame → (column : ℕ) → List Value → (start at c : ℕ) → (rest : List ℕ)
+    → Result Front Broken
 next_item frames column items start at c rest =
     if is_dash c rest then Ok (front (InList column items ∷ frames) (AtValue start true false))
     else if c == 45 then no_text (behind at rest)
@@ -29,19 +30,21 @@ next_item frames column items start at c rest =
 -- a map around it, and no dash stands there
 abbrev pub ends_block : Frame → List Frame → (column : ℕ) → (dash : Bool) → Bool
 ends_block (InMap own keys values) around column dash = nat_lt column own
-ends_block (InList own items) around column dash = nat_lt column own || ((own == column) && not dash && is_map_at own around)
+ends_block (InList own items) around column dash = nat_lt column own
+    || ((own == column) && not dash && is_map_at own around)
 ends_block (InFlow items) around column dash = false
 
 -- a further entry of the block at this column begins
 unfoldable pub next_entry : Frame → List Frame → Value → (start at c : ℕ) → (rest : List ℕ) → Result Front Broken
 next_entry (InMap own keys values) around v start at c rest =
-    if own == (at - start) then begin_value (InMap own keys (values ++ v ∷ []) ∷ around) KeyOnly at c rest else no_text (place_of at c)
+    if own == (at - start) then begin_value (InMap own keys (values ++ v ∷ []) ∷ around) KeyOnly at c rest
+    else no_text (place_of at c)
 next_entry (InList own items) around v start at c rest =
     if own == (at - start) then next_item around own (items ++ v ∷ []) start at c rest else no_text (place_of at c)
 next_entry (InFlow items) around v start at c rest = no_text (place_of at c)
 
--- the value is whole, and something begins at a column: the blocks that end there are closed, and what begins is an entry
--- of the next one
+-- the value is whole, and something begins at a column: the blocks that end there are closed, and what begins is an
+-- entry of the next one
 unfoldable pub settle : List Frame → Value → (start at c : ℕ) → (rest : List ℕ) → Result Front Broken
 settle [] v start at c rest = no_text (place_of at c)
 settle (f ∷ fs) v start at c rest =
@@ -50,7 +53,7 @@ settle (f ∷ fs) v start at c rest =
 
 -- ---- the start of a line
 
--- one more line end behind a plain text
+-- one more line end after a plain text
 abbrev pub one_line_more : Waiting → Waiting
 one_line_more (Going t) = Going (end_line t)
 one_line_more w = w
@@ -70,7 +73,8 @@ begin_on_line frames start at c rest =
     if is_dash c rest then open_list frames start (at - start) at
     else begin_value frames (Either (at - start)) at c rest
 
--- no value stands yet: it may begin deeper than the block around it, a list also at the column of the map whose key it belongs to
+-- no value stands yet: it may begin deeper than the block around it, a list also at the column of the map whose key it
+-- belongs to
 unfoldable pub value_on_line : List Frame → (start at c : ℕ) → (rest : List ℕ) → Result Front Broken
 value_on_line frames start at c rest =
     if is_deeper (at - start) frames then begin_on_line frames start at c rest
@@ -117,28 +121,32 @@ in_line frames waiting start at c rest =
     else line_content frames waiting start at c rest
 
 unfoldable pub in_comment : List Frame → Waiting → (at c : ℕ) → Result Front Broken
-in_comment frames waiting at c = if c == 10 then Ok (front frames (AtLine (at + 1) waiting)) else Ok (front frames (InComment waiting))
+in_comment frames waiting at c = if c == 10 then Ok (front frames (AtLine (at + 1) waiting))
+    else Ok (front frames (InComment waiting))
 
 unfoldable pub in_mark : List Frame → (left : ℕ) → Result Front Broken
-in_mark frames left = if nat_le left 1 then Ok (front frames (AfterValue Nothing false)) else Ok (front frames (InMark (left - 1)))
+in_mark frames left = if nat_le left 1 then Ok (front frames (AfterValue Nothing false))
+    else Ok (front frames (InMark (left - 1)))
 
 -- ---- block scalars
 
 abbrev pub with_chomp : BlockText → ℕ → BlockText
 with_chomp b c = if c == 43 then record b { chomp = Keep } else record b { chomp = Strip }
 
--- behind `|` or `>`: a sign, then spaces and a comment; a digit is left out
+-- after `|` or `>`: an indicator, then spaces and a comment; a digit is left out
 unfoldable pub in_header : List Frame → BlockText → (signed spaced : Bool) → (at c : ℕ) → Result Front Broken
 in_header frames b signed spaced at c =
     if c == 32 then Ok (front frames (InHeader b signed true))
     else if c == 10 then Ok (front frames (AtTextLine (at + 1) b))
     else if (c == 35) && spaced then Ok (front frames (InHeaderComment b))
     else if is_digit c && not spaced then left_out at
-    else if ((c == 43) || (c == 45)) && not spaced && not signed then Ok (front frames (InHeader (with_chomp b c) true false))
+    else if ((c == 43) || (c == 45)) && not spaced && not signed
+    then Ok (front frames (InHeader (with_chomp b c) true false))
     else no_text (place_of at c)
 
 unfoldable pub in_header_comment : List Frame → BlockText → (at c : ℕ) → Result Front Broken
-in_header_comment frames b at c = if c == 10 then Ok (front frames (AtTextLine (at + 1) b)) else Ok (front frames (InHeaderComment b))
+in_header_comment frames b at c = if c == 10 then Ok (front frames (AtTextLine (at + 1) b))
+    else Ok (front frames (InHeaderComment b))
 
 -- the line is one of text: it has the text's indentation, or is the first and deeper than the block around the scalar.
 -- Where the file could end, a mark ends the text
@@ -147,7 +155,8 @@ is_text_line frames b column = elim b.indent [ None ↦ is_deeper column frames 
 
 -- a line of text begins
 abbrev pub begin_text : List Frame → BlockText → (column c : ℕ) → Result Front Broken
-begin_text frames b column c = Ok (front frames (InTextLine (elim b.indent [ None ↦ first_line b column c | Some i ↦ begin_line b c ])))
+begin_text frames b column c = Ok (front frames (InTextLine
+    (elim b.indent [ None ↦ first_line b column c | Some i ↦ begin_line b c ])))
 
 -- a space is text where the indentation is complete
 abbrev pub is_indented : BlockText → (column : ℕ) → Bool
@@ -170,11 +179,13 @@ at_text_line frames b start at c rest =
     if c == 10 then end_blank frames (at - start) b at
     else if ends_blank_line c rest then Ok (front frames (AtBlankEnd (at - start) b))
     else if (c == 32) && not (is_indented b (at - start)) then Ok (front frames (AtTextLine start b))
-    else if is_text_line frames b (at - start) && not (((at - start) == 0) && begins_mark c rest) then begin_text frames b (at - start) c
+    else if is_text_line frames b (at - start) && not (((at - start) == 0) && begins_mark c rest)
+    then begin_text frames b (at - start) c
     else end_block frames b start at c rest
 
 unfoldable pub at_blank_end : List Frame → (spaces : ℕ) → BlockText → (at : ℕ) → Result Front Broken
 at_blank_end frames spaces b at = end_blank frames spaces b at
 
 unfoldable pub in_text_line : List Frame → BlockText → (at c : ℕ) → Result Front Broken
-in_text_line frames b at c = if c == 10 then Ok (front frames (AtTextLine (at + 1) b)) else Ok (front frames (InTextLine (go_on b c)))
+in_text_line frames b at c = if c == 10 then Ok (front frames (AtTextLine (at + 1) b))
+    else Ok (front frames (InTextLine (go_on b c)))

@@ -1,4 +1,4 @@
--- What a front takes in on a line: values where they begin, texts, and what stands behind them.
+-- What a front takes in on a line: values where they begin, texts, and what stands after them.
 use Rattle.std.specs.Prelude.{ℕ, ◌+◌, ◌-◌, ◌*◌, ◌%◌, Bool, true, false, ◌&&◌, ◌||◌, not, ◌==◌, nat_lt, nat_le, List, [], ◌∷◌, ◌++◌, codes, Result, Ok, if◌then◌else◌}
 use Rattle.std.specs.List.{list_any}
 use Rattle.std.specs.Str.{bytes_eq}
@@ -17,7 +17,8 @@ use Rattle.yaml_profile.specs.Fronts.{Frame, InMap, InList, InFlow, Waiting, Not
 
 -- a list, at the dash
 unfoldable pub open_list : List Frame → (start column at : ℕ) → Result Front Broken
-open_list frames start column at = if is_full frames then too_deep at else Ok (front (InList column [] ∷ frames) (AtValue start true false))
+open_list frames start column at = if is_full frames then too_deep at
+    else Ok (front (InList column [] ∷ frames) (AtValue start true false))
 
 -- a flow list, at the bracket
 unfoldable pub open_flow : List Frame → (at : ℕ) → Result Front Broken
@@ -27,15 +28,17 @@ open_flow frames at = if is_full frames then too_deep at else Ok (front (InFlow 
 
 -- the map at a column begins with a key
 abbrev pub first_key : List Frame → (column : ℕ) → (key : List ℕ) → (at : ℕ) → Result Front Broken
-first_key frames column key at = if is_full frames then too_deep at else Ok (front (InMap column (key ∷ []) [] ∷ frames) (AtValue 0 false false))
+first_key frames column key at = if is_full frames then too_deep at
+    else Ok (front (InMap column (key ∷ []) [] ∷ frames) (AtValue 0 false false))
 
 -- the innermost map goes on with a key
 abbrev pub further_key : List Frame → (key : List ℕ) → (at : ℕ) → Result Front Broken
 further_key (InMap column keys values ∷ fs) key at =
-    if list_any (bytes_eq key) keys then second_key at else Ok (front (InMap column (keys ++ key ∷ []) values ∷ fs) (AtValue 0 false false))
+    if list_any (bytes_eq key) keys then second_key at
+    else Ok (front (InMap column (keys ++ key ∷ []) values ∷ fs) (AtValue 0 false false))
 further_key _ key at = no_text at
 
--- a text is a key, by the colon behind it; `fails` is where it shows that no key can stand there
+-- a text is a key, by the colon after it; `fails` is where it shows that no key can stand there
 unfoldable pub key_of : List Frame → Role → (key : List ℕ) → (at fails : ℕ) → Result Front Broken
 key_of frames ValueOnly key at fails = no_text fails
 key_of frames (Either column) key at fails = first_key frames column key at
@@ -47,11 +50,12 @@ is_value_only _ = false
 
 -- a plain key: `<<` is left out
 unfoldable pub plain_key : List Frame → Role → (key : List ℕ) → (at fails : ℕ) → Result Front Broken
-plain_key frames role key at fails = if bytes_eq key (codes "<<") && not (is_value_only role) then left_out at else key_of frames role key at fails
+plain_key frames role key at fails = if bytes_eq key (codes "<<") && not (is_value_only role) then left_out at
+    else key_of frames role key at fails
 
--- ---- behind a value
+-- ---- after a value
 
--- behind an item of a flow list stands a comma or the closing bracket
+-- after an item of a flow list stands a comma or the closing bracket
 unfoldable pub after_item : List Frame → Value → (at c : ℕ) → Result Front Broken
 after_item (InFlow items ∷ fs) v at c =
     if c == 44 then Ok (front (InFlow (items ++ v ∷ []) ∷ fs) (AtValue 0 false false))
@@ -64,7 +68,7 @@ unfoldable pub end_flow : List Frame → (at : ℕ) → Result Front Broken
 end_flow (InFlow items ∷ fs) at = Ok (front fs (AfterValue (Whole (a_list (items_from items))) false))
 end_flow frames at = no_text at
 
--- only spaces, a comment and the line end, and in a flow list what stands behind an item
+-- only spaces, a comment and the line end, and in a flow list what stands after an item
 unfoldable pub in_after_value : List Frame → Waiting → (spaced : Bool) → (at c : ℕ) → Result Front Broken
 in_after_value frames waiting spaced at c =
     if c == 32 then Ok (front frames (AfterValue waiting true))
@@ -76,9 +80,10 @@ in_after_value frames waiting spaced at c =
 
 -- `|` and `>`, which aren't in flow lists
 abbrev pub begin_block : List Frame → Bool → (at : ℕ) → Result Front Broken
-begin_block frames folded at = if is_flow frames then no_text at else Ok (front frames (InHeader (no_lines folded) false false))
+begin_block frames folded at = if is_flow frames then no_text at
+    else Ok (front frames (InHeader (no_lines folded) false false))
 
--- the sign of a value that isn't a text, or of a left-out form
+-- the indicator of a value that isn't a text, or of a left-out form
 unfoldable pub begin_sign : List Frame → (at c : ℕ) → Result Front Broken
 begin_sign frames at c =
     if c == 91 then open_flow frames at
@@ -93,8 +98,8 @@ abbrev pub is_key_only : Role → Bool
 is_key_only KeyOnly = true
 is_key_only _ = false
 
--- a plain text begins. A tab that begins it waits as a blank: it is part of the text if a character follows that is none,
--- and a text of tabs alone is empty
+-- a plain text begins. A tab that begins it waits as a blank: it is part of the text if a character follows that is
+-- none, and a text of tabs alone is empty
 abbrev pub begin_plain : List Frame → Role → (at c : ℕ) → Result Front Broken
 begin_plain frames role at c = if c == 9 then Ok (front frames (InPlain (put_blank nothing_yet c) role at false))
     else Ok (front frames (InPlain (put nothing_yet c) role at false))
@@ -103,13 +108,15 @@ unfoldable pub begin_value : List Frame → Role → (at c : ℕ) → (rest : Li
 begin_value frames role at c rest =
     if c == 34 then Ok (front frames (InDouble nothing_yet role at))
     else if c == 39 then Ok (front frames (InSingle nothing_yet role at))
-    else if is_word_sign c && ends_word rest then (if (c == 63) && begins_with 32 rest then left_out at else no_text (behind at rest))
+    else if is_word_sign c && ends_word rest then (if (c == 63) && begins_with 32 rest then left_out at
+    else no_text (behind at rest))
     else if is_value_sign c && not (is_key_only role) then begin_sign frames at c
     else if is_value_sign c || begins_nothing c then no_text at
     else begin_plain frames role at c
 
 -- where a value may begin on a line that began at `start`
-unfoldable pub in_at_value : List Frame → (start : ℕ) → (mapped spaced : Bool) → (at c : ℕ) → (rest : List ℕ) → Result Front Broken
+unfoldable pub in_at_value : List Frame → (start : ℕ) → (mapped spaced : Bool) → (at c : ℕ) → (rest : List ℕ)
+    → Result Front Broken
 in_at_value frames start mapped spaced at c rest =
     if c == 32 then Ok (front frames (AtValue start mapped true))
     else if c == 10 then Ok (front frames (AtLine (at + 1) Nothing))
@@ -121,17 +128,21 @@ in_at_value frames start mapped spaced at c rest =
 
 -- a plain text ends at a comment, and a line of one at the line end; neither is a key
 abbrev pub plain_comment : List Frame → Role → Folding → (at : ℕ) → Result Front Broken
-plain_comment frames role text at = if is_key_only role then no_text at else Ok (front frames (InComment (Whole (scalar_of text.text))))
+plain_comment frames role text at = if is_key_only role then no_text at
+    else Ok (front frames (InComment (Whole (scalar_of text.text))))
 
 abbrev pub plain_line : List Frame → Role → Folding → (at : ℕ) → Result Front Broken
-plain_line frames role text at = if is_key_only role then no_text at else Ok (front frames (AtLine (at + 1) (Going (end_line text))))
+plain_line frames role text at = if is_key_only role then no_text at
+    else Ok (front frames (AtLine (at + 1) (Going (end_line text))))
 
 -- a character more of a plain text
 abbrev pub more_plain : List Frame → Folding → Role → (begun c : ℕ) → Result Front Broken
-more_plain frames text role begun c = if is_blank c then Ok (front frames (InPlain (put_blank text c) role begun (c == 32)))
+more_plain frames text role begun c = if is_blank c then Ok
+    (front frames (InPlain (put_blank text c) role begun (c == 32)))
     else Ok (front frames (InPlain (put text c) role begun (c == 32)))
 
-unfoldable pub in_plain : List Frame → Folding → Role → (begun : ℕ) → (spaced : Bool) → (at c : ℕ) → (rest : List ℕ) → Result Front Broken
+unfoldable pub in_plain : List Frame → Folding → Role → (begun : ℕ) → (spaced : Bool) → (at c : ℕ) → (rest : List ℕ)
+    → Result Front Broken
 in_plain frames text role begun spaced at c rest =
     if (c == 58) && ends_word rest then plain_key frames role text.text begun (behind at rest)
     else if (c == 35) && spaced then plain_comment frames role text at
@@ -143,10 +154,12 @@ in_plain frames text role begun spaced at c rest =
 
 -- a line ends between quotes: a text of several lines is no key
 abbrev pub single_line : List Frame → Role → Folding → (begun at : ℕ) → Result Front Broken
-single_line frames role text begun at = if is_key_only role then no_text at else Ok (front frames (InSingle text ValueOnly begun))
+single_line frames role text begun at = if is_key_only role then no_text at
+    else Ok (front frames (InSingle text ValueOnly begun))
 
 abbrev pub double_line : List Frame → Role → Folding → (begun at : ℕ) → Result Front Broken
-double_line frames role text begun at = if is_key_only role then no_text at else Ok (front frames (InDouble text ValueOnly begun))
+double_line frames role text begun at = if is_key_only role then no_text at
+    else Ok (front frames (InDouble text ValueOnly begun))
 
 -- the closing quote
 abbrev pub end_quotes : List Frame → Folding → Role → (begun : ℕ) → Result Front Broken
@@ -154,7 +167,8 @@ end_quotes frames text role begun = Ok (front frames (AfterQuoted (caught_up tex
 
 unfoldable pub in_single : List Frame → Folding → Role → (begun at c : ℕ) → (rest : List ℕ) → Result Front Broken
 in_single frames text role begun at c rest =
-    if c == 39 then (if begins_with 39 rest then Ok (front frames (AtSecondQuote text role begun)) else end_quotes frames text role begun)
+    if c == 39 then (if begins_with 39 rest then Ok (front frames (AtSecondQuote text role begun))
+    else end_quotes frames text role begun)
     else if c == 10 then single_line frames role (end_line text) begun at
     else if is_blank c then Ok (front frames (InSingle (put_blank text c) role begun))
     else Ok (front frames (InSingle (put text c) role begun))
@@ -172,7 +186,8 @@ in_double frames text role begun at c =
 
 -- the character of an escape of one character, 0 to 255; 256 where it is none
 abbrev pub escaped : ℕ → ℕ
-escaped c = if c == 48 then 0 else if c == 97 then 7 else if c == 98 then 8 else if c == 116 then 9 else if c == 110 then 10
+escaped c = if c == 48 then 0 else if c == 97 then 7 else if c == 98 then 8 else if c == 116 then 9 else if c == 110
+    then 10
     else if c == 118 then 11 else if c == 102 then 12 else if c == 114 then 13 else if c == 101 then 27
     else if c == 34 then 34 else if c == 47 then 47 else if c == 92 then 92 else 256
 
@@ -193,7 +208,8 @@ is_surrogate n = nat_le 0xD800 n && nat_lt n 0xE000
 
 -- the last digit of an escape is read
 abbrev pub end_digits : List Frame → Folding → Role → (begun at number : ℕ) → Result Front Broken
-end_digits frames text role begun at number = if is_surrogate number then no_text at else Ok (front frames (InDouble (put text number) role begun))
+end_digits frames text role begun at number = if is_surrogate number then no_text at
+    else Ok (front frames (InDouble (put text number) role begun))
 
 -- there are four digits at most, so nothing is lost below 65536
 unfoldable pub in_digits : List Frame → Folding → Role → (begun left number at c : ℕ) → Result Front Broken
@@ -202,11 +218,13 @@ in_digits frames text role begun left number at c =
     else if nat_le left 1 then end_digits frames text role begun at ((number * 16 + digit c) % 65536)
     else Ok (front frames (InDigits text role begun (left - 1) ((number * 16 + digit c) % 65536)))
 
--- a colon behind a quoted text
+-- a colon after a quoted text
 abbrev pub quoted_key : List Frame → (key : List ℕ) → Role → (begun at : ℕ) → (rest : List ℕ) → Result Front Broken
-quoted_key frames key role begun at rest = if ends_word rest || is_value_only role then key_of frames role key begun at else no_text (behind at rest)
+quoted_key frames key role begun at rest = if ends_word rest || is_value_only role then key_of frames role key begun at
+    else no_text (behind at rest)
 
-unfoldable pub in_after_quoted : List Frame → (text : List ℕ) → Role → (begun : ℕ) → (spaced : Bool) → (at c : ℕ) → (rest : List ℕ) → Result Front Broken
+unfoldable pub in_after_quoted : List Frame → (text : List ℕ) → Role → (begun : ℕ) → (spaced : Bool) → (at c : ℕ)
+    → (rest : List ℕ) → Result Front Broken
 in_after_quoted frames text role begun spaced at c rest =
     if c == 32 then Ok (front frames (AfterQuoted text role begun true))
     else if c == 58 then quoted_key frames text role begun at rest

@@ -1,4 +1,4 @@
--- A file is read from its first character to its last. The front behind each character decides which ones may follow.
+-- A file is read from its first character to its last. The front after each character decides which ones may follow.
 use Rattle.std.specs.Prelude.{ℕ, ◌+◌, ◌-◌, Bool, true, false, ◌&&◌, not, ◌==◌, List, [], ◌∷◌, ◌++◌, length, take, drop, Option, Some, None, Result, Ok, if◌then◌else◌}
 use Rattle.std.specs.Char.{len_utf8}
 use Rattle.std.specs.Int.{is_in_range}
@@ -18,7 +18,7 @@ use Rattle.yaml_profile.specs.Layout.{in_line, in_comment, in_mark, in_header, i
 abbrev pub at_start : Front
 at_start = front [] (AtLine 0 Fresh)
 
--- the front behind one character more
+-- the front after one character more
 unfoldable pub taken : List Frame → Innermost → (at c : ℕ) → (rest : List ℕ) → Result Front Broken
 taken frames (AtLine start waiting) at c rest = in_line frames waiting start at c rest
 taken frames (AtValue start mapped spaced) at c rest = in_at_value frames start mapped spaced at c rest
@@ -46,9 +46,10 @@ takes_return (AtTextLine start b) = false
 takes_return _ = true
 
 unfoldable pub step : Front → (at c : ℕ) → (rest : List ℕ) → Result Front Broken
-step f at c rest = if (c == 13) && begins_with 10 rest && takes_return f.inner then Ok f else taken f.frames f.inner at c rest
+step f at c rest = if (c == 13) && begins_with 10 rest && takes_return f.inner then Ok f
+    else taken f.frames f.inner at c rest
 
--- the front behind all these characters, the first of them at this place
+-- the front after all these characters, the first of them at this place
 unfoldable pub walk : Front → ℕ → List ℕ → Result Front Broken
 walk f at [] = Ok f
 walk f at (c ∷ cs) = step f at c cs >>= λ g. walk g (at + len_utf8 c) cs
@@ -65,8 +66,10 @@ last_line b spaces = if spaces == 0 then b else blank_line b spaces
 unfoldable pub ends : List Frame → Innermost → (at : ℕ) → Result Value Broken
 ends frames (AtLine start waiting) at = outside_flow frames (value_so_far waiting) at
 ends frames (AtValue start mapped spaced) at = outside_flow frames null at
-ends frames (InPlain text role begun spaced) at = if is_key_only role then no_text at else outside_flow frames (scalar_of text.text) at
-ends frames (AfterQuoted text role begun spaced) at = if is_key_only role then no_text at else outside_flow frames (a_text text) at
+ends frames (InPlain text role begun spaced) at = if is_key_only role then no_text at
+    else outside_flow frames (scalar_of text.text) at
+ends frames (AfterQuoted text role begun spaced) at = if is_key_only role then no_text at
+    else outside_flow frames (a_text text) at
 ends frames (AfterValue waiting spaced) at = outside_flow frames (value_so_far waiting) at
 ends frames (InComment waiting) at = outside_flow frames (value_so_far waiting) at
 ends frames (InHeader b signed spaced) at = outside_flow frames (a_text (block_text b)) at
@@ -100,4 +103,5 @@ characters bytes = chars (take (utf8_valid_len bytes) bytes) ++ broken_off (not 
 
 -- the value of a file, or its first broken rule
 unfoldable pub reading : List ℕ → Result Value Broken
-reading bytes = walk at_start 0 (characters bytes) >>= λ f. if is_whole bytes then ends f.frames f.inner (length bytes) else no_text (broken_at bytes)
+reading bytes = walk at_start 0 (characters bytes) >>= λ f. if is_whole bytes then ends f.frames f.inner (length bytes)
+    else no_text (broken_at bytes)

@@ -13,23 +13,25 @@ abbrev pub is_null : List ℕ → Bool
 is_null = is_one_of ([] ∷ codes "~" ∷ codes "null" ∷ codes "Null" ∷ codes "NULL" ∷ [])
 
 abbrev pub is_true : List ℕ → Bool
-is_true = is_one_of (codes "true" ∷ codes "True" ∷ codes "TRUE" ∷ codes "yes" ∷ codes "Yes" ∷ codes "YES" ∷ codes "on" ∷ codes "On" ∷ codes "ON" ∷ [])
+is_true = is_one_of (codes "true" ∷ codes "True" ∷ codes "TRUE" ∷ codes "yes" ∷ codes "Yes" ∷ codes "YES" ∷ codes "on"
+    ∷ codes "On" ∷ codes "ON" ∷ [])
 
 abbrev pub is_false : List ℕ → Bool
-is_false = is_one_of (codes "false" ∷ codes "False" ∷ codes "FALSE" ∷ codes "no" ∷ codes "No" ∷ codes "NO" ∷ codes "off" ∷ codes "Off" ∷ codes "OFF" ∷ [])
+is_false = is_one_of (codes "false" ∷ codes "False" ∷ codes "FALSE" ∷ codes "no" ∷ codes "No" ∷ codes "NO" ∷ codes "off"
+    ∷ codes "Off" ∷ codes "OFF" ∷ [])
 
 -- the value of a digit, 16 and more where it is none
 abbrev pub digit : ℕ → ℕ
 digit c = if nat_lt c 48 then 16 else if nat_le c 57 then c - 48 else if nat_lt c 65 then 16
     else if nat_le c 70 then c - 55 else if nat_lt c 97 then 16 else if nat_le c 102 then c - 87 else 16
 
--- the number that digits of this base spell behind others, where it stays below 2^64
+-- the number that digits of this base spell after others, where it stays below 2^64
 abbrev pub spelled : ℕ → ℕ → List ℕ → Option ℕ
 spelled base so_far [] = Some so_far
 spelled base so_far (c ∷ cs) = if nat_lt (digit c) base && nat_lt (so_far * base + digit c) 0x1_0000_0000_0000_0000
     then spelled base (so_far * base + digit c) cs else None
 
--- behind a 0: nothing, or `x` and hexadecimal digits
+-- after a 0: nothing, or `x` and hexadecimal digits
 abbrev pub behind_zero : List ℕ → Option ℕ
 behind_zero [] = Some 0
 behind_zero (c ∷ []) = None
@@ -46,7 +48,8 @@ minus n = pos 0 -ℤ pos n
 -- a whole number: a sign or none, and a magnitude
 abbrev pub whole_number : List ℕ → Option ℤ
 whole_number [] = None
-whole_number (c ∷ cs) = if c == 45 then option_map minus (magnitude cs) else if c == 43 then option_map pos (magnitude cs)
+whole_number (c ∷ cs) = if c == 45 then option_map minus (magnitude cs) else if c == 43
+    then option_map pos (magnitude cs)
     else option_map pos (magnitude (c ∷ cs))
 
 abbrev pub is_sign : ℕ → Bool
@@ -55,10 +58,11 @@ is_sign c = (c == 43) || (c == 45)
 abbrev pub is_exponent : ℕ → Bool
 is_exponent c = (c == 101) || (c == 69)
 
--- only characters of numbers, with signs behind an `e` or `E` alone; `behind_e` says that one stands before
+-- only characters of numbers, with signs after an `e` or `E` alone; `behind_e` says that one stands before
 abbrev pub goes_on : Bool → List ℕ → Bool
 goes_on behind_e [] = true
-goes_on behind_e (c ∷ cs) = (is_digit c || (c == 46) || (c == 95) || (c == 58) || is_exponent c || (is_sign c && behind_e)) && goes_on (is_exponent c) cs
+goes_on behind_e (c ∷ cs) = (is_digit c || (c == 46) || (c == 95) || (c == 58) || is_exponent c
+    || (is_sign c && behind_e)) && goes_on (is_exponent c) cs
 
 -- what looks like a number and is no whole one
 abbrev pub is_other : List ℕ → Bool

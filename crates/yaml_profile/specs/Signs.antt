@@ -19,8 +19,8 @@ ends_line (c ∷ cs) = (c == 10) || ((c == 13) && begins_with 10 cs)
 abbrev pub ends_word : List ℕ → Bool
 ends_word rest = begins_with 32 rest || ends_line rest
 
--- a character at this place is taken and what stands behind it is not: a carriage return may still begin a
--- line end, and then it is the byte behind that
+-- a character at this place is taken and what stands after it is not: a carriage return may still begin a
+-- line end, and then it is the byte after that
 abbrev pub behind : ℕ → List ℕ → ℕ
 behind at rest = if begins_with 13 rest then at + 2 else at + 1
 
@@ -52,7 +52,7 @@ begins_nothing c = (c == 44) || (c == 93) || (c == 125) || (c == 35) || (c == 64
 abbrev pub is_digit : ℕ → Bool
 is_digit c = nat_le 48 c && nat_le c 57
 
--- behind a text, a character that is broken off counts as one that means nothing
+-- after a text, a character that is broken off counts as one that means nothing
 abbrev pub broken_off : Bool → List ℕ
 broken_off true = 0xE9 ∷ []
 broken_off false = []

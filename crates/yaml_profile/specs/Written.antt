@@ -35,7 +35,7 @@ abbrev pub IsEnding : Ending → Type 0
 IsEnding (Bare n) = Unit {0}
 IsEnding (Noted n text) = list_all is_inner text ≡ true
 
--- behind content a comment has a space before it
+-- after content a comment has a space before it
 abbrev pub IsApart : Ending → Type 0
 IsApart (Bare n) = Unit {0}
 IsApart (Noted n text) = 0 < n
@@ -55,16 +55,18 @@ abbrev pub word_ends : (ended : Bool) → List ℕ → Bool
 word_ends ended [] = ended
 word_ends ended (c ∷ cs) = (c == 32) || (c == 10)
 
--- these characters stay in a plain text, in a flow list or not, behind a space or not: no `: ` is among them, no ` #`, no
--- line end, and in a flow list no sign of it
+-- these characters stay in a plain text, in a flow list or not, after a space or not: no `: ` is among them, no ` #`,
+-- no line end, and in a flow list no indicator of it
 abbrev pub stays_plain : (flow spaced ended : Bool) → List ℕ → Bool
 stays_plain flow spaced ended [] = true
-stays_plain flow spaced ended (c ∷ cs) = is_inner c && not ((c == 58) && word_ends ended cs) && not ((c == 35) && spaced) && not (flow && is_flow_sign c)
+stays_plain flow spaced ended (c ∷ cs) = is_inner c && not ((c == 58) && word_ends ended cs)
+    && not ((c == 35) && spaced) && not (flow && is_flow_sign c)
     && stays_plain flow (c == 32) ended cs
 
--- a plain text begins with no sign of anything else, and with `-`, `?` or `:` only before more of a word
+-- a plain text begins with no indicator of anything else, and with `-`, `?` or `:` only before more of a word
 abbrev pub begins_plain : (ended : Bool) → (c : ℕ) → List ℕ → Bool
-begins_plain ended c cs = is_inner c && not (c == 32) && not (c == 34) && not (c == 39) && not (is_value_sign c) && not (begins_nothing c)
+begins_plain ended c cs = is_inner c && not (c == 32) && not (c == 34) && not (c == 39) && not (is_value_sign c)
+    && not (begins_nothing c)
     && not (is_word_sign c && word_ends ended cs)
 
 -- these are `---` or `...` as a word
@@ -72,18 +74,19 @@ abbrev pub is_mark : (ended : Bool) → (c : ℕ) → List ℕ → Bool
 is_mark ended c (d ∷ e ∷ more) = ((c == 45) || (c == 46)) && (d == c) && (e == c) && word_ends ended more
 is_mark ended c _ = false
 
--- a text may begin at this place: where it is the first on a line it begins with no tab, and at the first column, outside
--- flow lists, with no mark
+-- a text may begin at this place: where it is the first on a line it begins with no tab, and at the first column,
+-- outside flow lists, with no mark
 abbrev pub may_begin : (place : Option ℕ) → (flow ended : Bool) → (c : ℕ) → List ℕ → Bool
 may_begin None flow ended c cs = true
 may_begin (Some column) flow ended c cs = not (c == 9) && not (not flow && (column == 0) && is_mark ended c cs)
 
 -- the first line of a plain text
 abbrev pub IsPlain : (place : Option ℕ) → (flow ended : Bool) → (c : ℕ) → List ℕ → Type 0
-IsPlain place flow ended c cs = (begins_plain ended c cs ≡ true) × (stays_plain flow false ended cs ≡ true) × (may_begin place flow ended c cs ≡ true)
+IsPlain place flow ended c cs = (begins_plain ended c cs ≡ true) × (stays_plain flow false ended cs ≡ true)
+    × (may_begin place flow ended c cs ≡ true)
 
 -- between double quotes: a character as itself, by an escape of one character, or by its number in two or four digits;
--- and a line end, as itself or behind a backslash
+-- and a line end, as itself or after a backslash
 pub data Inner : Type 0 where
   Itself : (c : ℕ) → Inner
   Escaped : (c : ℕ) → Inner
@@ -194,7 +197,8 @@ line_ends ended (f ∷ fs) = true
 
 -- where this is the least column; a further line begins with any character but `#`, and with no blank
 abbrev pub IsFurther : (flow ended : Bool) → (least : ℕ) → Further → Type 0
-IsFurther flow ended least f = (least ≤ f.indent) × (not (f.first == 32) && not (f.first == 35) ≡ true) × (stays_plain flow false ended (f.first ∷ f.text) ≡ true)
+IsFurther flow ended least f = (least ≤ f.indent) × (not (f.first == 32) && not (f.first == 35) ≡ true)
+    × (stays_plain flow false ended (f.first ∷ f.text) ≡ true)
     × (may_begin (Some f.indent) flow ended f.first f.text ≡ true)
 
 abbrev pub AreFurther : (flow ended : Bool) → (least : ℕ) → List Further → Type 0
@@ -204,7 +208,7 @@ AreFurther flow ended least (f ∷ fs) = IsFurther flow (line_ends ended fs) lea
 abbrev pub plain_text : List ℕ → List ℕ
 plain_text cs = (with_chars nothing_yet cs).text
 
--- a plain text, with the blanks behind it, or a quoted text; of one line or several
+-- a plain text, with the blanks after it, or a quoted text; of one line or several
 pub data Scalar : Type 0 where
   Plain : (c : ℕ) → (cs : List ℕ) → List Further → Scalar
   Double : List Inner → Scalar
@@ -218,9 +222,10 @@ spell_scalar (Plain c cs fs) = spell_plain c cs fs
 spell_scalar (Double xs) = 34 ∷ (spell_inners xs ++ 34 ∷ [])
 spell_scalar (Single cs) = 39 ∷ (spell_singles cs ++ 39 ∷ [])
 
--- at a place, in a flow list or not, where a word ends behind it or not, and with the least column of its further lines
+-- at a place, in a flow list or not, where a word ends after it or not, and with the least column of its further lines
 abbrev pub IsScalarText : (place : Option ℕ) → (flow ended : Bool) → (least : ℕ) → Scalar → Type 0
-IsScalarText place flow ended least (Plain c cs fs) = IsPlain place flow (line_ends ended fs) c cs × AreFurther flow ended least fs
+IsScalarText place flow ended least (Plain c cs fs) = IsPlain place flow (line_ends ended fs) c cs
+    × AreFurther flow ended least fs
 IsScalarText place flow ended least (Double xs) = list_all is_inner_quoted xs ≡ true
 IsScalarText place flow ended least (Single cs) = Unit {0}
 
@@ -244,7 +249,7 @@ abbrev pub IsPad : Pad → Type 0
 IsPad (Inline n) = Unit {0}
 IsPad (Over e gaps n) = IsEnding e × IsApart e × AreGaps gaps
 
--- where something stands behind it
+-- where something stands after it
 abbrev pub place_behind : Pad → Option ℕ
 place_behind (Inline n) = None
 place_behind (Over e gaps n) = Some n
@@ -259,11 +264,11 @@ mutual
   pub data Flow : Type 0 where
     Text : Scalar → Flow
     Empty : Pad → Flow
-    -- without and with a comma behind the last item
+    -- without and with a comma after the last item
     Listed : Elements → Flow
     Trailed : Elements → Pad → Flow
 
-  -- items with what stands before and behind them
+  -- items with what stands before and after them
   pub data Elements : Type 0 where
     One : Pad → Flow → Pad → Elements
     Another : Elements → Pad → Flow → Pad → Elements
@@ -300,11 +305,12 @@ abbrev mutual
 
   pub AreElements : (least level : ℕ) → Elements → Type 0
   AreElements least level (One p x q) = IsPad p × IsFlow (place_behind p) true (ends_before q) least level x × IsPad q
-  AreElements least level (Another es p x q) = AreElements least level es × IsPad p × IsFlow (place_behind p) true (ends_before q) least level x × IsPad q
+  AreElements least level (Another es p x q) = AreElements least level es × IsPad p
+      × IsFlow (place_behind p) true (ends_before q) least level x × IsPad q
 
 -- ---- keys, on one line
 
--- a plain key, with the blanks behind it, or a quoted one, with the spaces behind it
+-- a plain key, with the blanks after it, or a quoted one, with the spaces after it
 pub data Key : Type 0 where
   PlainKey : (c : ℕ) → (cs : List ℕ) → Key
   DoubleKey : List Inner → (n : ℕ) → Key
@@ -327,7 +333,7 @@ IsKey place (SingleKey cs n) = list_any is_feed cs ≡ false
 
 -- ---- block scalars
 
--- a line behind the first: a text with its first character, or spaces alone
+-- a line after the first: a text with its first character, or spaces alone
 pub data TextLine : Type 0 where
   Line : (c : ℕ) → (cs : List ℕ) → TextLine
   Blank : (n : ℕ) → TextLine
@@ -339,7 +345,8 @@ pub record Rows : Type 0 where
   pub text : List ℕ
   pub more : List TextLine
 
--- a block scalar: `|` or `>`, the sign, the end of that line, the spaces of each blank line before the text, and the text
+-- a block scalar: `|` or `>`, the indicator, the end of that line, the spaces of each blank line before the text, and
+-- the text
 pub record Lines : Type 0 where
   pub folded : Bool
   pub chomp : Chomp
@@ -347,7 +354,7 @@ pub record Lines : Type 0 where
   pub leading : List ℕ
   pub rows : Option Rows
 
--- a comment line that ends a block scalar, and the lines without content behind it
+-- a comment line that ends a block scalar, and the lines without content after it
 pub record Note : Type 0 where
   pub indent : ℕ
   pub text : List ℕ
@@ -375,7 +382,8 @@ spell_rows None = []
 spell_rows (Some r) = spell_text r.indent r.first r.text ++ spell_more r.indent r.more
 
 abbrev pub spell_lines : Lines → List ℕ
-spell_lines l = spell_header l.folded l.chomp ++ (spell_ending l.ending ++ (spell_blanks l.leading ++ spell_rows l.rows))
+spell_lines l = spell_header l.folded l.chomp ++ (spell_ending l.ending
+    ++ (spell_blanks l.leading ++ spell_rows l.rows))
 
 abbrev pub spell_note : Option Note → List ℕ
 spell_note None = []
@@ -393,7 +401,8 @@ AreMore indent (Blank n ∷ ls) = (n ≤ indent) × AreMore indent ls
 -- where this is the least column
 abbrev pub AreRows : (least : ℕ) → Option Rows → Type 0
 AreRows least None = Unit {0}
-AreRows least (Some r) = (least ≤ r.indent) × ((r.first == 32) ≡ false) × (is_row r.indent r.first r.text ≡ true) × AreMore r.indent r.more
+AreRows least (Some r) = (least ≤ r.indent) × ((r.first == 32) ≡ false) × (is_row r.indent r.first r.text ≡ true)
+    × AreMore r.indent r.more
 
 abbrev pub AreLines : (least : ℕ) → Lines → Type 0
 AreLines least l = IsEnding l.ending × IsApart l.ending × AreRows least l.rows
@@ -407,7 +416,7 @@ abbrev pub IsNote : (least : ℕ) → Option Rows → Option Note → Type 0
 IsNote least rows None = Unit {0}
 IsNote least rows (Some n) = IsBeyond least rows n.indent × (list_all is_inner n.text ≡ true) × AreGaps n.gaps
 
--- the text of the lines, one behind the other
+-- the text of the lines, one after another
 abbrev pub go_all : BlockText → List ℕ → BlockText
 go_all b [] = b
 go_all b (c ∷ cs) = go_all (go_on b c) cs
@@ -426,7 +435,7 @@ text_of l = with_rows (record (no_lines l.folded) { chomp = l.chomp; leading = l
 
 -- ---- values that are no blocks
 
--- a scalar or flow list with the line ends behind it, or a block scalar
+-- a scalar or flow list with the line ends after it, or a block scalar
 pub data Leaf : Type 0 where
   Flowing : Flow → Ending → List Ending → Leaf
   Scalars : Lines → Option Note → Leaf
@@ -441,13 +450,15 @@ leaf_value (Scalars l n) = a_text (block_text (text_of l))
 
 -- at a place, with this least column of its further lines, and so many collections are open around it
 abbrev pub IsLeaf : (place : Option ℕ) → (least level : ℕ) → Leaf → Type 0
-IsLeaf place least level (Flowing x e gaps) = IsFlow place false true least level x × IsEnding e × IsApart e × AreGaps gaps
+IsLeaf place least level (Flowing x e gaps) = IsFlow place false true least level x × IsEnding e × IsApart e
+    × AreGaps gaps
 IsLeaf place least level (Scalars l n) = AreLines least l × IsNote least l.rows n
 
 -- ---- blocks
 
 mutual
-  -- what stands behind a key's colon or a dash: nothing, a value that is no block on the line, or a value on deeper lines
+  -- what stands after a key's colon or a dash: nothing, a value that is no block on the line, or a value on deeper
+  -- lines
   pub data Node : Type 0 where
     Nothing : Ending → List Ending → Node
     Beside : (n : ℕ) → Leaf → Node
@@ -468,7 +479,7 @@ mutual
     FirstItem : Item → Items
     NextItem : Items → Item → Items
 
-  -- what stands behind a dash: also a map whose first key is on the dash's line
+  -- what stands after a dash: also a map whose first key is on the dash's line
   pub data Item : Type 0 where
     Of : Node → Item
     MapOnLine : (n : ℕ) → Entries → Item
@@ -526,7 +537,8 @@ abbrev mutual
   item_value (Of x) = node_value x
   item_value (MapOnLine n es) = a_map (pairs_of (keys_of es) (entry_values es))
 
--- where a block may stand: deeper than the one around it, and a list also at the column of the map whose key it belongs to
+-- where a block may stand: deeper than the one around it, and a list also at the column of the map whose key it belongs
+-- to
 abbrev pub IsWithin : (least : ℕ) → (around : Bool) → Block → Type 0
 IsWithin column true (Dashes own is) = column ≤ own
 IsWithin column around (Dashes own is) = column < own
@@ -538,7 +550,8 @@ abbrev mutual
   pub IsNode : (column : ℕ) → (in_map : Bool) → (level : ℕ) → Node → Type 0
   IsNode column in_map level (Nothing e gaps) = IsEnding e × IsApart e × AreGaps gaps
   IsNode column in_map level (Beside n l) = IsLeaf None (suc column) level l
-  IsNode column in_map level (Below e gaps b) = IsEnding e × IsApart e × AreGaps gaps × IsWithin column in_map b × IsBlock (suc column) level b
+  IsNode column in_map level (Below e gaps b) = IsEnding e × IsApart e × AreGaps gaps × IsWithin column in_map b
+      × IsBlock (suc column) level b
 
   pub IsBlock : (least level : ℕ) → Block → Type 0
   IsBlock least level (Map column es) = (level < 32) × AreEntries (Some column) column (suc level) es
@@ -561,7 +574,7 @@ abbrev mutual
 
 -- ---- files
 
--- before a file's value: lines without content, and maybe a `---` line with such lines behind it
+-- before a file's value: lines without content, and maybe a `---` line with such lines after it
 pub data Head : Type 0 where
   Unmarked : List Ending → Head
   Marked : List Ending → Ending → List Ending → Head
@@ -574,7 +587,8 @@ abbrev pub IsHead : Head → Type 0
 IsHead (Unmarked gaps) = AreGaps gaps
 IsHead (Marked before e gaps) = AreGaps before × IsEnding e × IsApart e × AreGaps gaps
 
--- the end of a line, before more characters: a line feed, maybe with a carriage return before it, or none at the end of the file
+-- the end of a line, before more characters: a line feed, maybe with a carriage return before it, or none at the end of
+-- the file
 abbrev pub end_of_line : (cut return : Bool) → (rest more : List ℕ) → List ℕ
 end_of_line true return [] more = []
 end_of_line cut true rest more = 13 ∷ 10 ∷ more
@@ -583,9 +597,10 @@ end_of_line cut false rest more = 10 ∷ more
 -- with such line ends, from this line on
 abbrev pub with_ends : (cut : Bool) → (returns : ℕ → Bool) → (line : ℕ) → List ℕ → List ℕ
 with_ends cut returns line [] = []
-with_ends cut returns line (c ∷ cs) = if c == 10 then end_of_line cut (returns line) cs (with_ends cut returns (suc line) cs) else c ∷ with_ends cut returns line cs
+with_ends cut returns line (c ∷ cs) = if c == 10 then end_of_line cut (returns line) cs
+    (with_ends cut returns (suc line) cs) else c ∷ with_ends cut returns line cs
 
--- the last line has characters, and a line feed behind them
+-- the last line has characters, and a line feed after them
 abbrev pub ends_begun : (begun : Bool) → List ℕ → Bool
 ends_begun begun [] = false
 ends_begun begun (c ∷ []) = begun && (c == 10)
@@ -599,8 +614,8 @@ is_clear cut returns line (c ∷ cs) =
     if c == 10 then is_clear cut returns (suc line) cs
     else not ((c == 13) && begins_with 10 (with_ends cut returns line cs)) && is_clear cut returns line cs
 
--- a file: what stands before its value, and the value, if there is one; which lines end with a carriage return before the
--- line feed, and whether the last line's end is cut off
+-- a file: what stands before its value, and the value, if there is one; which lines end with a carriage return before
+-- the line feed, and whether the last line's end is cut off
 pub record File : Type 0 where
   pub head : Head
   pub block : Option Block
@@ -630,7 +645,8 @@ IsBody None = Unit {0}
 IsBody (Some b) = IsBlock 0 0 b
 
 abbrev pub IsFile : File → Type 0
-IsFile f = IsHead f.head × IsBody f.block × (is_clear f.cut f.returns 0 (spell_whole f) ≡ true) × (f.cut ≡ true → ends_begun false (spell_whole f) ≡ true)
+IsFile f = IsHead f.head × IsBody f.block × (is_clear f.cut f.returns 0 (spell_whole f) ≡ true)
+    × (f.cut ≡ true → ends_begun false (spell_whole f) ≡ true)
 
 -- the bytes are spelled by a tree of this value
 pub record IsSpelled (bytes : List ℕ) (v : Value) : Type 0 where

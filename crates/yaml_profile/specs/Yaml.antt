@@ -12,12 +12,12 @@ use Rattle.yaml_profile.specs.Fronts.{Front}
 use Rattle.yaml_profile.specs.Reading.{at_start, step, ends, is_whole, characters, broken_at}
 use Rattle.yaml_profile.specs.Reads.{IsFault}
 
--- the place behind these characters
+-- the place after these characters
 abbrev pub place_behind : ℕ → List ℕ → ℕ
 place_behind at [] = at
 place_behind at (c ∷ cs) = place_behind (at + len_utf8 c) cs
 
--- the front f takes in these characters, the first of them at this place and others behind them, and that makes g of it
+-- the front f takes in these characters, the first of them at this place and others after them, and that makes g of it
 abbrev pub Takes : (f : Front) → (at : ℕ) → (read rest : List ℕ) → (g : Front) → Type 0
 Takes f at [] rest g = f ≡ g
 Takes f at (c ∷ cs) rest g = (h : Front) × (step f at c (cs ++ rest) ≡ Ok h) × Takes h (at + len_utf8 c) cs rest g

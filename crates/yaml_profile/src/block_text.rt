@@ -1,17 +1,19 @@
 //! The text of a block scalar (YAML 1.2, section 8.1).
 
 ghost use Rattle.std.specs.Prelude.{◌≡◌, ◌++◌, IfOk, string_bytes};
-ghost use Rattle.yaml_profile.specs.BlockText.{no_lines, begin_line, go_on, empty_line, more_spaces, spaces_line, lead_in, first_line, blank_line, feed_each, block_text};
+ghost use Rattle.yaml_profile.specs.BlockText.{no_lines, begin_line, go_on, empty_line};
+ghost use Rattle.yaml_profile.specs.BlockText.{more_spaces, spaces_line, lead_in, first_line};
+ghost use Rattle.yaml_profile.specs.BlockText.{blank_line, feed_each, block_text};
 
 use std::alloc::{AllocError, Global};
 use std::marker::Model;
 
-/// What becomes of the line ends behind the text.
+/// What becomes of the line ends after the text.
 #[derive(Clone, Copy, Debug)]
 pub enum Chomp {
     /// `-`: all are dropped.
     Strip,
-    /// No sign: one stays.
+    /// No indicator: one stays.
     Clip,
     /// `+`: all stay.
     Keep,
@@ -50,7 +52,7 @@ impl Model for ScalarText {
 }
 
 impl ScalarText {
-    /// Behind `|`, or behind `>`, which folds.
+    /// After `|`, or after `>`, which folds.
     pub(crate) fn new(alloc: Global, folded: bool) -> ScalarText
         ensures { result ≡ no_lines folded }
     {
@@ -66,7 +68,7 @@ impl ScalarText {
         }
     }
 
-    /// The sign behind `|` or `>`.
+    /// The indicator after `|` or `>`.
     pub(crate) fn set_chomp(&mut self, chomp: Chomp)
         ensures { self.new ≡ record self.old { chomp = chomp } }
     {
@@ -207,7 +209,8 @@ impl ScalarText {
 
 /// A line feed for each of the blank lines.
 fn feed_each(text: &mut String, leading: &[u64]) -> Result<(), AllocError>
-    ensures { IfOk result (λ _. string_bytes text.new ≡ string_bytes text.old ++ feed_each leading.now) }
+    ensures { IfOk result (λ _. string_bytes text.new ≡ string_bytes text.old
+        ++ feed_each leading.now) }
 {
     for _ in leading {
         text.push_str("\n")?;

@@ -4,8 +4,10 @@ ghost use Rattle.std.specs.Prelude.{◌≡◌, ◌<◌, ◌+◌, ◌^◌, Ok, tr
 ghost use Rattle.yaml_profile.specs.Answers.{Leaves};
 ghost use Rattle.yaml_profile.specs.Signs.{is_digit};
 ghost use Rattle.yaml_profile.specs.Fronts.{front, InHeader};
-ghost use Rattle.yaml_profile.specs.Layout.{with_chomp, in_header, in_header_comment, is_text_line, begin_text, is_indented, end_blank, end_block, at_text_line, at_blank_end, in_text_line};
-ghost use Rattle.yaml_profile.specs.Shown.{frames_of, shown};
+ghost use Rattle.yaml_profile.specs.Layout.{with_chomp, in_header, in_header_comment, is_text_line};
+ghost use Rattle.yaml_profile.specs.Layout.{begin_text, is_indented, end_blank, end_block};
+ghost use Rattle.yaml_profile.specs.Layout.{at_text_line, at_blank_end, in_text_line};
+ghost use Rattle.yaml_profile.specs.Inner.Shown.{frames_of, shown};
 
 use crate::block_text::{Chomp, ScalarText};
 use crate::front::{Frame, is_deeper};
@@ -42,10 +44,12 @@ fn is_digit(c: char) -> bool
 }
 
 impl Reader {
-    /// Takes what stands behind `|` or `>`.
+    /// Takes what stands after `|` or `>`.
     #[tactic(auto, unfolding(crate::specs::Layout::in_header))]
     pub(crate) fn in_header(&mut self, signed: bool, spaced: bool, here: Here) -> Result<(), Stop>
-        ensures { Leaves (shown self.new) result (in_header (frames_of self.old.frames.items) self.old.block signed spaced here.at here.c) }
+        ensures { Leaves (shown self.new) result
+            (in_header (frames_of self.old.frames.items) self.old.block signed spaced here.at
+            here.c) }
     {
         if here.c == ' ' {
             self.place = Place::Header {
@@ -69,9 +73,10 @@ impl Reader {
         }
     }
 
-    /// Takes the sign behind `|` or `>`.
+    /// Takes the indicator after `|` or `>`.
     fn set_chomp(&mut self, c: char)
-        ensures { shown self.new ≡ front (frames_of self.old.frames.items) (InHeader (with_chomp self.old.block c) true false) }
+        ensures { shown self.new ≡ front (frames_of self.old.frames.items)
+            (InHeader (with_chomp self.old.block c) true false) }
     {
         if c == '+' {
             self.block.set_chomp(Chomp::Keep);
@@ -84,10 +89,11 @@ impl Reader {
         };
     }
 
-    /// Takes a character of a comment behind `|` or `>`.
+    /// Takes a character of a comment after `|` or `>`.
     #[tactic(auto, unfolding(crate::specs::Layout::in_header_comment))]
     pub(crate) fn in_header_comment(&mut self, here: Here)
-        ensures { in_header_comment (frames_of self.old.frames.items) self.old.block here.at here.c ≡ Ok (shown self.new) }
+        ensures { in_header_comment (frames_of self.old.frames.items) self.old.block here.at here.c
+            ≡ Ok (shown self.new) }
     {
         if here.c == '\n' {
             self.place = Place::TextLine { start: here.at + 1 };
@@ -98,7 +104,8 @@ impl Reader {
 
     /// A line of text begins.
     fn begin_text(&mut self, column: u64, c: char) -> Result<(), Stop>
-        ensures { Leaves (shown self.new) result (begin_text (frames_of self.old.frames.items) self.old.block column c) }
+        ensures { Leaves (shown self.new) result
+            (begin_text (frames_of self.old.frames.items) self.old.block column c) }
     {
         match self.block.indent() {
             None => self.block.first_line(self.alloc, column, c)?,
@@ -111,7 +118,8 @@ impl Reader {
     /// A line ends that has only spaces.
     fn end_blank(&mut self, spaces: u64, at: u64) -> Result<(), Stop>
         requires { at < 2 ^ 63 + 4 }
-        ensures { Leaves (shown self.new) result (end_blank (frames_of self.old.frames.items) spaces self.old.block at) }
+        ensures { Leaves (shown self.new) result
+            (end_blank (frames_of self.old.frames.items) spaces self.old.block at) }
     {
         self.block.blank_line(spaces)?;
         self.place = Place::TextLine { start: at + 1 };
@@ -120,7 +128,9 @@ impl Reader {
 
     /// The block scalar ends before the line on which this stands.
     fn end_block(&mut self, start: u64, here: Here, rest: &Rest<'_>) -> Result<(), Stop>
-        ensures { Leaves (shown self.new) result (end_block (frames_of self.old.frames.items) self.old.block start here.at here.c rest.now) }
+        ensures { Leaves (shown self.new) result
+            (end_block (frames_of self.old.frames.items) self.old.block start here.at here.c
+            rest.now) }
     {
         let text = self.block.take(self.alloc)?;
         self.value = Yaml::Str(Text::new(text));
@@ -135,7 +145,9 @@ impl Reader {
         here: Here,
         rest: &Rest<'_>,
     ) -> Result<(), Stop>
-        ensures { Leaves (shown self.new) result (at_text_line (frames_of self.old.frames.items) self.old.block start here.at here.c rest.now) }
+        ensures { Leaves (shown self.new) result
+            (at_text_line (frames_of self.old.frames.items) self.old.block start here.at here.c
+            rest.now) }
     {
         let column = here.at.saturating_sub(start);
         if here.c == '\n' {
@@ -155,10 +167,11 @@ impl Reader {
         }
     }
 
-    /// Takes the line end behind the spaces of a blank line.
+    /// Takes the line end after the spaces of a blank line.
     #[tactic(auto, unfolding(crate::specs::Layout::at_blank_end))]
     pub(crate) fn at_blank_end(&mut self, spaces: u64, here: Here) -> Result<(), Stop>
-        ensures { Leaves (shown self.new) result (at_blank_end (frames_of self.old.frames.items) spaces self.old.block here.at) }
+        ensures { Leaves (shown self.new) result
+            (at_blank_end (frames_of self.old.frames.items) spaces self.old.block here.at) }
     {
         self.end_blank(spaces, here.at)
     }
@@ -166,7 +179,8 @@ impl Reader {
     /// Takes a character of a line of text.
     #[tactic(auto, unfolding(crate::specs::Layout::in_text_line))]
     pub(crate) fn in_text_line(&mut self, here: Here) -> Result<(), Stop>
-        ensures { Leaves (shown self.new) result (in_text_line (frames_of self.old.frames.items) self.old.block here.at here.c) }
+        ensures { Leaves (shown self.new) result
+            (in_text_line (frames_of self.old.frames.items) self.old.block here.at here.c) }
     {
         if here.c == '\n' {
             self.place = Place::TextLine { start: here.at + 1 };

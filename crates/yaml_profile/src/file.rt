@@ -7,12 +7,14 @@ ghost use Rattle.edt_base.specs.YamlData.{Value, a_text, value_of};
 ghost use Rattle.yaml_profile.specs.Answers.{Gives, Leaves};
 ghost use Rattle.yaml_profile.specs.BlockText.{block_text};
 ghost use Rattle.yaml_profile.specs.Fronts.{all_closed};
-ghost use Rattle.yaml_profile.specs.Reading.{at_start, taken, takes_return, step, walk, outside_flow, last_line, ends, begun_len, broken_place, reading};
+ghost use Rattle.yaml_profile.specs.Reading.{at_start, taken, takes_return, step, walk};
+ghost use Rattle.yaml_profile.specs.Reading.{outside_flow, last_line, ends, begun_len};
+ghost use Rattle.yaml_profile.specs.Reading.{broken_place, reading};
 ghost use Rattle.yaml_profile.specs.Reads.{Reads};
 ghost use Rattle.yaml_profile.specs.Written.{IsSpelled};
 ghost use Rattle.yaml_profile.specs.Yaml.{IsYaml, IsFirst, IfValue, IfFault, IsFirstFault};
 ghost use Rattle.yaml_profile.specs.declared.stop.Broken.{Broken};
-ghost use Rattle.yaml_profile.specs.Shown.{frames_of, inner_of, shown};
+ghost use Rattle.yaml_profile.specs.Inner.Shown.{frames_of, inner_of, shown};
 
 use crate::front::{Frame, close, is_flow, pop};
 use crate::keys::is_key_only;
@@ -27,7 +29,8 @@ use std::str::Utf8Error;
 
 /// Whether a carriage return before a line feed is taken with it here.
 fn takes_return(place: Place) -> bool
-    ensures { (text : _) (quoted : _) (value : _) (block : _) → result ≡ takes_return (inner_of place text quoted value block) }
+    ensures { (text : _) (quoted : _) (value : _) (block : _)
+        → result ≡ takes_return (inner_of place text quoted value block) }
 {
     match place {
         Place::Digits { .. } | Place::TextLine { .. } => false,
@@ -38,7 +41,8 @@ fn takes_return(place: Place) -> bool
 
 /// The value of a file whose innermost value this is.
 fn close_all(alloc: Global, frames: &mut Vec<Frame>, value: Yaml) -> Result<Yaml, AllocError>
-    ensures { IfOk result (λ v. value_of v ≡ all_closed (frames_of frames.old.items) (value_of value)) }
+    ensures { IfOk result (λ v. value_of v ≡ all_closed (frames_of frames.old.items)
+        (value_of value)) }
 {
     let mut value = value;
     while let Some(frame) = pop(frames) {
@@ -62,7 +66,9 @@ impl Reader {
     #[tactic(auto, unfolding(crate::specs::Reading::taken))]
     fn take(&mut self, here: Here, rest: &Rest<'_>) -> Result<(), Stop>
         ensures { Leaves (shown self.new) result
-            (taken (frames_of self.old.frames.items) (inner_of self.old.place self.old.text (string_bytes self.old.quoted) (value_of self.old.value) self.old.block) here.at here.c rest.now) }
+            (taken (frames_of self.old.frames.items)
+            (inner_of self.old.place self.old.text (string_bytes self.old.quoted)
+            (value_of self.old.value) self.old.block) here.at here.c rest.now) }
     {
         match self.place {
             Place::Line { start, waiting } => self.in_line(waiting, start, here, rest),
@@ -124,7 +130,8 @@ impl Reader {
 
     /// The value of a block scalar that ends where the file does.
     fn end_text(&mut self, spaces: u64) -> Result<Yaml, AllocError>
-        ensures value { IfOk result (λ v. value_of v ≡ a_text (block_text (last_line self.old.block spaces))) }
+        ensures value { IfOk result (λ v. value_of v
+            ≡ a_text (block_text (last_line self.old.block spaces))) }
         ensures frames { self.new.frames ≡ self.old.frames }
     {
         if spaces != 0 {
@@ -137,7 +144,9 @@ impl Reader {
     #[tactic(auto, unfolding(crate::specs::Reading::ends))]
     fn end(mut self, at: u64) -> Result<Yaml, Stop>
         ensures { Gives value_of result
-            (ends (frames_of self.frames.items) (inner_of self.place self.text (string_bytes self.quoted) (value_of self.value) self.block) at) }
+            (ends (frames_of self.frames.items)
+            (inner_of self.place self.text (string_bytes self.quoted) (value_of self.value)
+            self.block) at) }
     {
         let alloc = self.alloc;
         match self.place {
@@ -256,8 +265,8 @@ fn answer(alloc: Global, file: &Text, src: &[u8]) -> Result<Yaml, End>
 }
 
 /// Reads a binding file: the YAML in which Zephyr 3.7's bindings are written (its page on bindings
-/// syntax; the forms are those of YAML 1.2, sections 6 to 8 and 10). `file` is the name that a fault
-/// tells, `src` are the bytes of the file.
+/// syntax; the forms are those of YAML 1.2, sections 6 to 8 and 10). `file` is the name that a
+/// fault tells, `src` are the bytes of the file.
 ///
 /// Gives the file's value, which is the only one. A map's pairs stand in written order, no key
 /// twice, and at most 32 maps and lists nest.
@@ -266,8 +275,8 @@ fn answer(alloc: Global, file: &Text, src: &[u8]) -> Result<Yaml, End>
 ///
 /// `End::Fault` with the first broken rule and its byte, and only where one is broken: Y1 where no
 /// text of the profile goes on, Y2 where a form begins that the profile leaves out, Y3 where a key
-/// begins that its map has already, Y4 where the 33rd map or list begins. At one byte Y1 comes last.
-/// `End::Memory` where memory was wanted.
+/// begins that its map has already, Y4 where the 33rd map or list begins. At one byte Y1 comes
+/// last. `End::Memory` where memory was wanted.
 pub fn read(alloc: Global, file: &Text, src: &[u8]) -> Result<Yaml, End>
     ensures spelled { IfValue result (IsSpelled src.now) }
     ensures unique { IfValue result (λ given. (v : Value) → IsSpelled src.now v → v ≡ given) }

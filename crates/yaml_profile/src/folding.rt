@@ -1,7 +1,8 @@
 //! A text over several lines, as plain and quoted texts fold (YAML 1.2, sections 6.5 and 7.3).
 
 ghost use Rattle.std.specs.Prelude.{◌≡◌, [], IfOk, string_bytes};
-ghost use Rattle.yaml_profile.specs.Folding.{nothing_yet, put, put_blank, end_line, join_line, caught_up};
+ghost use Rattle.yaml_profile.specs.Folding.{nothing_yet, put, put_blank, end_line, join_line};
+ghost use Rattle.yaml_profile.specs.Folding.{caught_up};
 
 use std::alloc::{AllocError, Global};
 use std::marker::Model;
@@ -13,7 +14,7 @@ pub enum Seam {
     Inside,
     /// A line end, which folds.
     Folds,
-    /// A line end behind a backslash, which joins.
+    /// A line end after a backslash, which joins.
     Joins,
 }
 
@@ -33,7 +34,12 @@ impl Model for FoldingText {
 
     ghost Value = { Folding };
 
-    ghost view = { λ t. record { text = string_bytes t.text; blanks = string_bytes t.blanks; seam = t.seam; feeds = string_bytes t.feeds } };
+    ghost view = { λ t. record {
+      text = string_bytes t.text;
+      blanks = string_bytes t.blanks;
+      seam = t.seam;
+      feeds = string_bytes t.feeds;
+    } };
 }
 
 impl FoldingText {
@@ -51,7 +57,12 @@ impl FoldingText {
 
     /// Puts in all that stands before the next character.
     fn catch_up(&mut self) -> Result<(), AllocError>
-        ensures { IfOk result (λ _. self.new ≡ record { text = caught_up self.old; blanks = []; seam = Seam.Inside; feeds = [] }) }
+        ensures { IfOk result (λ _. self.new ≡ record {
+          text = caught_up self.old;
+          blanks = [];
+          seam = Seam.Inside;
+          feeds = [];
+        }) }
     {
         match self.seam {
             Seam::Inside => {}
@@ -105,7 +116,7 @@ impl FoldingText {
         Ok(())
     }
 
-    /// Takes a line end behind a backslash.
+    /// Takes a line end after a backslash.
     pub(crate) fn join_line(&mut self) -> Result<(), AllocError>
         ensures { IfOk result (λ _. self.new ≡ join_line self.old) }
     {
@@ -114,7 +125,7 @@ impl FoldingText {
         Ok(())
     }
 
-    /// The text, without the blanks behind it; nothing stays.
+    /// The text, without the blanks after it; nothing stays.
     pub(crate) fn take_text(&mut self, alloc: Global) -> String
         ensures { string_bytes result ≡ self.old.text }
     {

@@ -3,7 +3,7 @@
 ghost use Rattle.std.specs.Prelude.{◌≡◌, ◌∷◌, ◌<◌, [], IfOk, IfSome, MatchOption, length, map};
 ghost use Rattle.std.specs.List.{zip};
 ghost use Rattle.edt_base.specs.YamlData.{value_of, pair_of, a_map, a_list, pairs_from, items_from};
-ghost use Rattle.yaml_profile.specs.Shown.{frame_of, frames_of};
+ghost use Rattle.yaml_profile.specs.Inner.Shown.{frame_of, frames_of};
 ghost use Rattle.yaml_profile.specs.Fronts.{closed, is_full, is_flow, is_map_at, is_deeper};
 
 use edt_base::{Text, Yaml};
@@ -24,7 +24,8 @@ pub enum Role {
 /// An open collection.
 #[derive(Debug, Drop)]
 pub enum Frame {
-    /// A map at a column: its keys, and their values, but for that of the last key while it is read.
+    /// A map at a column: its keys, and their values, but for that of the last key while it is
+    /// read.
     Map {
         column: u64,
         keys: IndexSet<Text>,
@@ -91,7 +92,8 @@ pub(crate) fn close(alloc: Global, frame: Frame, value: Yaml) -> Result<Yaml, Al
 
 /// Puts a collection on the open ones.
 pub(crate) fn push(frames: &mut Vec<Frame>, frame: Frame) -> Result<(), AllocError>
-    ensures { IfOk result (λ _. frames_of frames.new.items ≡ frame_of frame ∷ frames_of frames.old.items) }
+    ensures { IfOk result (λ _. frames_of frames.new.items ≡ frame_of frame
+        ∷ frames_of frames.old.items) }
 {
     match frames.push(frame) {
         Ok(()) => Ok(()),
@@ -102,7 +104,9 @@ pub(crate) fn push(frames: &mut Vec<Frame>, frame: Frame) -> Result<(), AllocErr
 /// Takes the innermost open collection.
 #[tactic(auto, using(crate::proofs::FrameLaws::frames_push))]
 pub(crate) fn pop(frames: &mut Vec<Frame>) -> Option<Frame>
-    ensures cases { MatchOption result ((frames_of frames.old.items ≡ []) × (frames_of frames.new.items ≡ [])) (λ f. frames_of frames.old.items ≡ frame_of f ∷ frames_of frames.new.items) }
+    ensures cases { MatchOption result ((frames_of frames.old.items ≡ [])
+        × (frames_of frames.new.items ≡ [])) (λ f. frames_of frames.old.items ≡ frame_of f
+        ∷ frames_of frames.new.items) }
     ensures fewer { IfSome result (λ _. length frames.new.items < length frames.old.items) }
 {
     frames.pop()

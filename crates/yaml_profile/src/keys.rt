@@ -2,8 +2,9 @@
 
 ghost use Rattle.std.specs.Prelude.{◌≡◌, false, string_bytes};
 ghost use Rattle.yaml_profile.specs.Answers.{Leaves};
-ghost use Rattle.yaml_profile.specs.Pieces.{open_list, open_flow, first_key, further_key, key_of, plain_key, is_key_only, is_value_only};
-ghost use Rattle.yaml_profile.specs.Shown.{frames_of, shown};
+ghost use Rattle.yaml_profile.specs.Pieces.{open_list, open_flow, first_key, further_key, key_of};
+ghost use Rattle.yaml_profile.specs.Pieces.{plain_key, is_key_only, is_value_only};
+ghost use Rattle.yaml_profile.specs.Inner.Shown.{frames_of, shown};
 
 use crate::front::{Frame, Role, is_full, pop, push};
 use crate::reader::{Place, Reader};
@@ -29,7 +30,8 @@ impl Reader {
     /// A list begins, at its first dash.
     #[tactic(auto, unfolding(crate::specs::Pieces::open_list))]
     pub(crate) fn open_list(&mut self, start: u64, column: u64, at: u64) -> Result<(), Stop>
-        ensures { Leaves (shown self.new) result (open_list (frames_of self.old.frames.items) start column at) }
+        ensures { Leaves (shown self.new) result
+            (open_list (frames_of self.old.frames.items) start column at) }
     {
         if is_full(self.frames.as_slice()) {
             return Err(stop_at(Rule::Y4, at));
@@ -71,7 +73,8 @@ impl Reader {
 
     /// A map begins with a key.
     fn first_key(&mut self, column: u64, key: Text, at: u64) -> Result<(), Stop>
-        ensures { Leaves (shown self.new) result (first_key (frames_of self.old.frames.items) column key at) }
+        ensures { Leaves (shown self.new) result
+            (first_key (frames_of self.old.frames.items) column key at) }
     {
         if is_full(self.frames.as_slice()) {
             return Err(stop_at(Rule::Y4, at));
@@ -93,7 +96,8 @@ impl Reader {
 
     /// The innermost map goes on with a key.
     fn further_key(&mut self, key: Text, at: u64) -> Result<(), Stop>
-        ensures { Leaves (shown self.new) result (further_key (frames_of self.old.frames.items) key at) }
+        ensures { Leaves (shown self.new) result
+            (further_key (frames_of self.old.frames.items) key at) }
     {
         match pop(&mut self.frames) {
             Some(
@@ -122,7 +126,7 @@ impl Reader {
         }
     }
 
-    /// A text that began at `at` is a key, by the colon behind it; `fails` is where it shows that no
+    /// A text that began at `at` is a key, by the colon after it; `fails` is where it shows that no
     /// key can stand there.
     #[tactic(auto, unfolding(crate::specs::Pieces::key_of))]
     pub(crate) fn key_of(
@@ -132,7 +136,8 @@ impl Reader {
         at: u64,
         fails: u64,
     ) -> Result<(), Stop>
-        ensures { Leaves (shown self.new) result (key_of (frames_of self.old.frames.items) role (string_bytes key) at fails) }
+        ensures { Leaves (shown self.new) result
+            (key_of (frames_of self.old.frames.items) role (string_bytes key) at fails) }
     {
         match role {
             Role::Value => Err(stop_at(Rule::Y1, fails)),
@@ -150,7 +155,8 @@ impl Reader {
         at: u64,
         fails: u64,
     ) -> Result<(), Stop>
-        ensures { Leaves (shown self.new) result (plain_key (frames_of self.old.frames.items) role (string_bytes key) at fails) }
+        ensures { Leaves (shown self.new) result
+            (plain_key (frames_of self.old.frames.items) role (string_bytes key) at fails) }
     {
         if key.as_str() == "<<" && !is_value_only(role) {
             return Err(stop_at(Rule::Y2, at));

@@ -9,7 +9,8 @@ ghost use Rattle.yaml_profile.specs.Written.{File, IsFile, IsSpelled, spell_file
 
 /// The bytes of a file that is a tree with its layout are read as the tree's value.
 pub fn written_files_are_read()
-    ensures { (f : File) → IsFile f → all_scalars (spell_file f) ≡ true → reading (encode_utf8_all (spell_file f)) ≡ Ok (file_value f) }
+    ensures { (f : File) → IsFile f → all_scalars (spell_file f) ≡ true
+        → reading (encode_utf8_all (spell_file f)) ≡ Ok (file_value f) }
 {}
 
 /// What is read spells the file: the bytes of a file that has a value are those of a tree with its

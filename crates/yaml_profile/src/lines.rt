@@ -3,8 +3,11 @@
 ghost use Rattle.std.specs.Prelude.{◌≡◌, Ok, map};
 ghost use Rattle.edt_base.specs.YamlData.{value_of};
 ghost use Rattle.yaml_profile.specs.Answers.{Leaves};
-ghost use Rattle.yaml_profile.specs.Layout.{is_dash, next_item, ends_block, next_entry, settle, begin_comment, blank_line, begin_on_line, value_on_line, block_line, flow_line, mark_line, line_content, in_line, in_comment, in_mark};
-ghost use Rattle.yaml_profile.specs.Shown.{frame_of, frames_of, shown, waiting_of};
+ghost use Rattle.yaml_profile.specs.Layout.{is_dash, next_item, ends_block, next_entry, settle};
+ghost use Rattle.yaml_profile.specs.Layout.{begin_comment, blank_line, begin_on_line};
+ghost use Rattle.yaml_profile.specs.Layout.{value_on_line, block_line, flow_line, mark_line};
+ghost use Rattle.yaml_profile.specs.Layout.{line_content, in_line, in_comment, in_mark};
+ghost use Rattle.yaml_profile.specs.Inner.Shown.{frame_of, frames_of, shown, waiting_of};
 
 use crate::front::{Frame, Role, close, is_deeper, is_flow, is_map_at, pop, push};
 use crate::reader::{Place, Reader, Waiting};
@@ -45,7 +48,9 @@ impl Reader {
         here: Here,
         rest: &Rest<'_>,
     ) -> Result<(), Stop>
-        ensures { Leaves (shown self.new) result (next_item (frames_of self.old.frames.items) column (map value_of items.items) start here.at here.c rest.now) }
+        ensures { Leaves (shown self.new) result
+            (next_item (frames_of self.old.frames.items) column (map value_of items.items) start
+            here.at here.c rest.now) }
     {
         if is_dash(here, rest) {
             push(&mut self.frames, Frame::List { column, items })?;
@@ -72,7 +77,9 @@ impl Reader {
         here: Here,
         rest: &Rest<'_>,
     ) -> Result<(), Stop>
-        ensures { Leaves (shown self.new) result (next_entry (frame_of frame) (frames_of self.old.frames.items) (value_of value) start here.at here.c rest.now) }
+        ensures { Leaves (shown self.new) result
+            (next_entry (frame_of frame) (frames_of self.old.frames.items) (value_of value) start
+            here.at here.c rest.now) }
     {
         let column = here.at.saturating_sub(start);
         match frame {
@@ -112,7 +119,9 @@ impl Reader {
     /// The value is whole, and something begins at a column: closes the blocks that end there.
     #[tactic(auto, unfolding(crate::specs::Layout::settle))]
     fn settle(&mut self, value: Yaml, start: u64, here: Here, rest: &Rest<'_>) -> Result<(), Stop>
-        ensures { Leaves (shown self.new) result (settle (frames_of self.old.frames.items) (value_of value) start here.at here.c rest.now) }
+        ensures { Leaves (shown self.new) result
+            (settle (frames_of self.old.frames.items) (value_of value) start here.at here.c
+            rest.now) }
     {
         let column = here.at.saturating_sub(start);
         let dash = is_dash(here, rest);
@@ -129,7 +138,8 @@ impl Reader {
     /// A value begins on a line of its own.
     #[tactic(auto, unfolding(crate::specs::Layout::begin_on_line))]
     fn begin_on_line(&mut self, start: u64, here: Here, rest: &Rest<'_>) -> Result<(), Stop>
-        ensures { Leaves (shown self.new) result (begin_on_line (frames_of self.old.frames.items) start here.at here.c rest.now) }
+        ensures { Leaves (shown self.new) result
+            (begin_on_line (frames_of self.old.frames.items) start here.at here.c rest.now) }
     {
         let column = here.at.saturating_sub(start);
         if is_dash(here, rest) {
@@ -142,7 +152,8 @@ impl Reader {
     /// Something begins where no value stands yet.
     #[tactic(auto, unfolding(crate::specs::Layout::value_on_line))]
     fn value_on_line(&mut self, start: u64, here: Here, rest: &Rest<'_>) -> Result<(), Stop>
-        ensures { Leaves (shown self.new) result (value_on_line (frames_of self.old.frames.items) start here.at here.c rest.now) }
+        ensures { Leaves (shown self.new) result
+            (value_on_line (frames_of self.old.frames.items) start here.at here.c rest.now) }
     {
         let column = here.at.saturating_sub(start);
         if is_deeper(column, self.frames.as_slice()) {
@@ -164,7 +175,9 @@ impl Reader {
         rest: &Rest<'_>,
     ) -> Result<(), Stop>
         ensures { Leaves (shown self.new) result
-            (block_line (frames_of self.old.frames.items) (waiting_of waiting self.old.text (value_of self.old.value)) start here.at here.c rest.now) }
+            (block_line (frames_of self.old.frames.items)
+            (waiting_of waiting self.old.text (value_of self.old.value)) start here.at here.c
+            rest.now) }
     {
         match waiting {
             Waiting::Fresh | Waiting::Nothing => self.value_on_line(start, here, rest),
@@ -200,7 +213,9 @@ impl Reader {
         rest: &Rest<'_>,
     ) -> Result<(), Stop>
         ensures { Leaves (shown self.new) result
-            (flow_line (frames_of self.old.frames.items) (waiting_of waiting self.old.text (value_of self.old.value)) start here.at here.c rest.now) }
+            (flow_line (frames_of self.old.frames.items)
+            (waiting_of waiting self.old.text (value_of self.old.value)) start here.at here.c
+            rest.now) }
     {
         match waiting {
             Waiting::Fresh | Waiting::Nothing => {
@@ -227,7 +242,8 @@ impl Reader {
     /// `---` or `...` begins.
     fn mark_line(&mut self, waiting: Waiting, here: Here) -> Result<(), Stop>
         ensures { Leaves (shown self.new) result
-            (mark_line (frames_of self.old.frames.items) (waiting_of waiting self.old.text (value_of self.old.value)) here.at here.c) }
+            (mark_line (frames_of self.old.frames.items)
+            (waiting_of waiting self.old.text (value_of self.old.value)) here.at here.c) }
     {
         match waiting {
             Waiting::Fresh => {
@@ -252,7 +268,9 @@ impl Reader {
         rest: &Rest<'_>,
     ) -> Result<(), Stop>
         ensures { Leaves (shown self.new) result
-            (line_content (frames_of self.old.frames.items) (waiting_of waiting self.old.text (value_of self.old.value)) start here.at here.c rest.now) }
+            (line_content (frames_of self.old.frames.items)
+            (waiting_of waiting self.old.text (value_of self.old.value)) start here.at here.c
+            rest.now) }
     {
         if is_flow(self.frames.as_slice()) {
             self.flow_line(waiting, start, here, rest)
@@ -265,7 +283,9 @@ impl Reader {
 
     /// A comment ends a plain text.
     fn begin_comment(&mut self, waiting: Waiting) -> Result<(), Stop>
-        ensures { Leaves (shown self.new) result (begin_comment (frames_of self.old.frames.items) (waiting_of waiting self.old.text (value_of self.old.value))) }
+        ensures { Leaves (shown self.new) result
+            (begin_comment (frames_of self.old.frames.items)
+            (waiting_of waiting self.old.text (value_of self.old.value))) }
     {
         match waiting {
             Waiting::Going => {
@@ -281,7 +301,9 @@ impl Reader {
 
     /// A line ends that has only spaces.
     fn blank_line(&mut self, waiting: Waiting, here: Here) -> Result<(), Stop>
-        ensures { Leaves (shown self.new) result (blank_line (frames_of self.old.frames.items) (waiting_of waiting self.old.text (value_of self.old.value)) here.at) }
+        ensures { Leaves (shown self.new) result
+            (blank_line (frames_of self.old.frames.items)
+            (waiting_of waiting self.old.text (value_of self.old.value)) here.at) }
     {
         if let Waiting::Going = waiting {
             self.text.end_line()?;
@@ -303,7 +325,9 @@ impl Reader {
         rest: &Rest<'_>,
     ) -> Result<(), Stop>
         ensures { Leaves (shown self.new) result
-            (in_line (frames_of self.old.frames.items) (waiting_of waiting self.old.text (value_of self.old.value)) start here.at here.c rest.now) }
+            (in_line (frames_of self.old.frames.items)
+            (waiting_of waiting self.old.text (value_of self.old.value)) start here.at here.c
+            rest.now) }
     {
         match here.c {
             ' ' => {
@@ -320,7 +344,9 @@ impl Reader {
     /// Takes a character of a comment.
     #[tactic(auto, unfolding(crate::specs::Layout::in_comment))]
     pub(crate) fn in_comment(&mut self, waiting: Waiting, here: Here)
-        ensures { in_comment (frames_of self.old.frames.items) (waiting_of waiting self.old.text (value_of self.old.value)) here.at here.c ≡ Ok (shown self.new) }
+        ensures { in_comment (frames_of self.old.frames.items)
+            (waiting_of waiting self.old.text (value_of self.old.value)) here.at here.c
+            ≡ Ok (shown self.new) }
     {
         if here.c == '\n' {
             self.place = Place::Line {

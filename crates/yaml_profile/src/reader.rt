@@ -2,7 +2,7 @@
 
 ghost use Rattle.std.specs.Prelude.{◌≡◌};
 ghost use Rattle.yaml_profile.specs.Reading.{at_start};
-ghost use Rattle.yaml_profile.specs.Shown.{shown};
+ghost use Rattle.yaml_profile.specs.Inner.Shown.{shown};
 
 use crate::block_text::ScalarText;
 use crate::folding::FoldingText;
@@ -48,7 +48,7 @@ pub enum Place {
         role: Role,
         begun: u64,
     },
-    /// In front of the second of two single quotes.
+    /// Before the second of two single quotes.
     Second {
         role: Role,
         begun: u64,
@@ -58,7 +58,7 @@ pub enum Place {
         role: Role,
         begun: u64,
     },
-    /// Behind a backslash.
+    /// After a backslash.
     Escape {
         role: Role,
         begun: u64,
@@ -70,13 +70,13 @@ pub enum Place {
         left: u8,
         number: u16,
     },
-    /// Behind a quoted text.
+    /// After a quoted text.
     Quoted {
         role: Role,
         begun: u64,
         spaced: bool,
     },
-    /// Behind `]` or `---`.
+    /// After `]` or `---`.
     After {
         waiting: Waiting,
         spaced: bool,
@@ -85,11 +85,11 @@ pub enum Place {
     Comment {
         waiting: Waiting,
     },
-    /// In front of so many more dashes of `---`.
+    /// Before so many more dashes of `---`.
     Mark {
         left: u8,
     },
-    /// Behind `|` or `>`.
+    /// After `|` or `>`.
     Header {
         signed: bool,
         spaced: bool,
@@ -100,7 +100,7 @@ pub enum Place {
     TextLine {
         start: u64,
     },
-    /// Behind the spaces of a blank one.
+    /// After the spaces of a blank one.
     BlankEnd {
         spaces: u64,
     },

@@ -3,11 +3,12 @@
 ghost use Rattle.std.specs.Prelude.{◌≡◌, ◌∷◌, ◌++◌, ◌+◌, ◌<◌, ◌^◌, [], length, MatchOption, IfSome};
 ghost use Rattle.std.specs.Char.{len_utf8};
 ghost use Rattle.std.specs.Str.{chars};
-ghost use Rattle.yaml_profile.specs.Signs.{begins_with, ends_line, ends_word, begins_mark, broken_off};
+ghost use Rattle.yaml_profile.specs.Signs.{begins_with, ends_line, ends_word, begins_mark};
+ghost use Rattle.yaml_profile.specs.Signs.{broken_off};
 
 use std::marker::Model;
 
-/// What is left of a file: a text, and whether a character is broken off behind it. Contracts see
+/// What is left of a file: a text, and whether a character is broken off after it. Contracts see
 /// the characters.
 #[derive(Drop)]
 pub(crate) struct Rest<'a> {
@@ -28,7 +29,8 @@ impl<'a> Model for Rest<'a> {
 impl<'a> Rest<'a> {
     /// The next character.
     pub(crate) fn next(&mut self) -> Option<char>
-        ensures { MatchOption result ((self.old ≡ []) × (self.new ≡ [])) (λ c. self.old ≡ c ∷ self.new) }
+        ensures { MatchOption result ((self.old ≡ []) × (self.new ≡ []))
+            (λ c. self.old ≡ c ∷ self.new) }
     {
         match split_first(self.text) {
             Some((c, behind)) => {
@@ -95,9 +97,10 @@ impl<'a> Rest<'a> {
     }
 }
 
-/// The first character of a text, and the text behind it.
+/// The first character of a text, and the text after it.
 fn split_first(text: &str) -> Option<(char, &str)>
-    ensures first { MatchOption result (chars text.now ≡ []) (λ r. chars text.now ≡ r.0 ∷ chars r.1.now) }
+    ensures first { MatchOption result (chars text.now ≡ [])
+        (λ r. chars text.now ≡ r.0 ∷ chars r.1.now) }
     ensures width { IfSome result (λ r. length text.now ≡ len_utf8 r.0 + length r.1.now) }
 {
     let mut chars = text.chars();
@@ -135,7 +138,7 @@ impl<'a> Model for Source<'a> {
 }
 
 impl<'a> Source<'a> {
-    /// A file of this text, and whether a character is broken off behind it.
+    /// A file of this text, and whether a character is broken off after it.
     pub(crate) fn of(text: &'a str, broken: bool) -> Source<'a>
         ensures { result ≡ record { at = 0; chars = chars text.now ++ broken_off broken } }
     {
@@ -149,7 +152,8 @@ impl<'a> Source<'a> {
     /// The next character.
     pub(crate) fn next(&mut self) -> Option<Here>
         ensures { MatchOption result ((self.old.chars ≡ []) × (self.new ≡ self.old))
-            (λ h. (self.old.chars ≡ h.c ∷ self.new.chars) × (h.at ≡ self.old.at) × (self.new.at ≡ h.at + len_utf8 h.c)) }
+            (λ h. (self.old.chars ≡ h.c ∷ self.new.chars) × (h.at ≡ self.old.at)
+            × (self.new.at ≡ h.at + len_utf8 h.c)) }
     {
         let at = self.at;
         if let Some((c, behind)) = split_first(self.text) {

@@ -2,7 +2,10 @@
 
 ghost use Rattle.std.specs.Prelude.{◌≡◌, ◌≤◌, false, string_bytes};
 ghost use Rattle.edt_base.specs.YamlData.{value_of};
-ghost use Rattle.yaml_profile.specs.Scalars.{is_null, is_true, is_false, digit, spelled, behind_zero, magnitude, whole_number, is_sign, is_exponent, goes_on, is_other, scalar_of, number_or_text};
+ghost use Rattle.yaml_profile.specs.Scalars.{is_null, is_true, is_false, digit, spelled};
+ghost use Rattle.yaml_profile.specs.Scalars.{behind_zero, magnitude, whole_number, is_sign};
+ghost use Rattle.yaml_profile.specs.Scalars.{is_exponent, goes_on, is_other, scalar_of};
+ghost use Rattle.yaml_profile.specs.Scalars.{number_or_text};
 
 use edt_base::{Text, Yaml};
 
@@ -24,7 +27,8 @@ pub(crate) fn scalar_of(text: String) -> Yaml
 }
 
 fn number_or_text(text: String) -> Yaml
-    ensures { value_of result ≡ number_or_text (string_bytes text) (whole_number (string_bytes text)) }
+    ensures { value_of result ≡ number_or_text (string_bytes text)
+        (whole_number (string_bytes text)) }
 {
     if let Some(n) = whole_number(text.as_bytes()) {
         return Yaml::Int(n);
@@ -150,7 +154,7 @@ fn is_other(text: &[u8]) -> bool
     }
 }
 
-/// Only characters of numbers, with signs behind an `e` or `E` alone.
+/// Only characters of numbers, with signs after an `e` or `E` alone.
 fn goes_on(text: &[u8]) -> bool
     ensures { result ≡ goes_on false text.now }
 {

@@ -3,8 +3,12 @@
 ghost use Rattle.std.specs.Prelude.{◌≡◌, if◌then◌else◌, string_bytes};
 ghost use Rattle.yaml_profile.specs.Answers.{Leaves};
 ghost use Rattle.yaml_profile.specs.Folding.{end_line, join_line};
-ghost use Rattle.yaml_profile.specs.Pieces.{plain_comment, plain_line, more_plain, in_plain, end_quotes, single_line, double_line, in_single, at_second_quote, in_double, escaped, put_escaped, in_escape, end_digits, in_digits, quoted_key, in_after_quoted};
-ghost use Rattle.yaml_profile.specs.Shown.{frames_of, shown};
+ghost use Rattle.yaml_profile.specs.Pieces.{plain_comment, plain_line, more_plain, in_plain};
+ghost use Rattle.yaml_profile.specs.Pieces.{end_quotes, single_line, double_line, in_single};
+ghost use Rattle.yaml_profile.specs.Pieces.{at_second_quote, in_double, escaped, put_escaped};
+ghost use Rattle.yaml_profile.specs.Pieces.{in_escape, end_digits, in_digits, quoted_key};
+ghost use Rattle.yaml_profile.specs.Pieces.{in_after_quoted};
+ghost use Rattle.yaml_profile.specs.Inner.Shown.{frames_of, shown};
 
 use crate::front::{Role, is_flow};
 use crate::keys::{is_key_only, is_value_only};
@@ -40,7 +44,8 @@ fn escaped(c: char) -> u32
 impl Reader {
     /// A comment ends a plain text.
     fn plain_comment(&mut self, role: Role, at: u64) -> Result<(), Stop>
-        ensures { Leaves (shown self.new) result (plain_comment (frames_of self.old.frames.items) role self.old.text at) }
+        ensures { Leaves (shown self.new) result
+            (plain_comment (frames_of self.old.frames.items) role self.old.text at) }
     {
         if is_key_only(role) {
             return Err(stop_at(Rule::Y1, at));
@@ -54,7 +59,8 @@ impl Reader {
 
     /// A line of a plain text ends.
     fn plain_line(&mut self, role: Role, here: Here) -> Result<(), Stop>
-        ensures { Leaves (shown self.new) result (plain_line (frames_of self.old.frames.items) role self.old.text here.at) }
+        ensures { Leaves (shown self.new) result
+            (plain_line (frames_of self.old.frames.items) role self.old.text here.at) }
     {
         if is_key_only(role) {
             return Err(stop_at(Rule::Y1, here.at));
@@ -77,7 +83,9 @@ impl Reader {
         here: Here,
         rest: &Rest<'_>,
     ) -> Result<(), Stop>
-        ensures { Leaves (shown self.new) result (in_plain (frames_of self.old.frames.items) self.old.text role begun spaced here.at here.c rest.now) }
+        ensures { Leaves (shown self.new) result
+            (in_plain (frames_of self.old.frames.items) self.old.text role begun spaced here.at
+            here.c rest.now) }
     {
         if here.c == ':' && rest.ends_word() {
             let key = self.text.take_text(self.alloc);
@@ -96,7 +104,8 @@ impl Reader {
 
     /// Takes a character of a plain text.
     fn more_plain(&mut self, role: Role, begun: u64, here: Here) -> Result<(), Stop>
-        ensures { Leaves (shown self.new) result (more_plain (frames_of self.old.frames.items) self.old.text role begun here.c) }
+        ensures { Leaves (shown self.new) result
+            (more_plain (frames_of self.old.frames.items) self.old.text role begun here.c) }
     {
         if is_blank(here.c) {
             self.text.put_blank(here.c)?;
@@ -113,7 +122,8 @@ impl Reader {
 
     /// A line ends between single quotes.
     fn single_line(&mut self, role: Role, begun: u64, at: u64) -> Result<(), Stop>
-        ensures { Leaves (shown self.new) result (single_line (frames_of self.old.frames.items) role (end_line self.old.text) begun at) }
+        ensures { Leaves (shown self.new) result
+            (single_line (frames_of self.old.frames.items) role (end_line self.old.text) begun at) }
     {
         if is_key_only(role) {
             return Err(stop_at(Rule::Y1, at));
@@ -128,7 +138,8 @@ impl Reader {
 
     /// The closing quote.
     fn end_quotes(&mut self, role: Role, begun: u64) -> Result<(), Stop>
-        ensures { Leaves (shown self.new) result (end_quotes (frames_of self.old.frames.items) self.old.text role begun) }
+        ensures { Leaves (shown self.new) result
+            (end_quotes (frames_of self.old.frames.items) self.old.text role begun) }
     {
         self.quoted = self.text.take_quoted(self.alloc)?;
         self.place = Place::Quoted {
@@ -148,7 +159,9 @@ impl Reader {
         here: Here,
         rest: &Rest<'_>,
     ) -> Result<(), Stop>
-        ensures { Leaves (shown self.new) result (in_single (frames_of self.old.frames.items) self.old.text role begun here.at here.c rest.now) }
+        ensures { Leaves (shown self.new) result
+            (in_single (frames_of self.old.frames.items) self.old.text role begun here.at here.c
+            rest.now) }
     {
         if here.c == '\'' {
             if rest.begins_with('\'') {
@@ -172,16 +185,19 @@ impl Reader {
     /// Takes the second of two single quotes.
     #[tactic(auto, unfolding(crate::specs::Pieces::at_second_quote))]
     pub(crate) fn at_second_quote(&mut self, role: Role, begun: u64, here: Here) -> Result<(), Stop>
-        ensures { Leaves (shown self.new) result (at_second_quote (frames_of self.old.frames.items) self.old.text role begun here.c) }
+        ensures { Leaves (shown self.new) result
+            (at_second_quote (frames_of self.old.frames.items) self.old.text role begun here.c) }
     {
         self.text.put(here.c)?;
         self.place = Place::Single { role, begun };
         Ok(())
     }
 
-    /// A line ends between double quotes; behind a backslash it joins.
+    /// A line ends between double quotes; after a backslash it joins.
     fn double_line(&mut self, role: Role, begun: u64, at: u64, joins: bool) -> Result<(), Stop>
-        ensures { Leaves (shown self.new) result (double_line (frames_of self.old.frames.items) role (if joins then join_line self.old.text else end_line self.old.text) begun at) }
+        ensures { Leaves (shown self.new) result
+            (double_line (frames_of self.old.frames.items) role
+            (if joins then join_line self.old.text else end_line self.old.text) begun at) }
     {
         if is_key_only(role) {
             return Err(stop_at(Rule::Y1, at));
@@ -201,7 +217,8 @@ impl Reader {
     /// Takes a character between double quotes, or the closing one.
     #[tactic(auto, unfolding(crate::specs::Pieces::in_double))]
     pub(crate) fn in_double(&mut self, role: Role, begun: u64, here: Here) -> Result<(), Stop>
-        ensures { Leaves (shown self.new) result (in_double (frames_of self.old.frames.items) self.old.text role begun here.at here.c) }
+        ensures { Leaves (shown self.new) result
+            (in_double (frames_of self.old.frames.items) self.old.text role begun here.at here.c) }
     {
         if here.c == '"' {
             return self.end_quotes(role, begun);
@@ -222,10 +239,11 @@ impl Reader {
         Ok(())
     }
 
-    /// Takes the character behind a backslash.
+    /// Takes the character after a backslash.
     #[tactic(auto, unfolding(crate::specs::Pieces::in_escape))]
     pub(crate) fn in_escape(&mut self, role: Role, begun: u64, here: Here) -> Result<(), Stop>
-        ensures { Leaves (shown self.new) result (in_escape (frames_of self.old.frames.items) self.old.text role begun here.at here.c) }
+        ensures { Leaves (shown self.new) result
+            (in_escape (frames_of self.old.frames.items) self.old.text role begun here.at here.c) }
     {
         match here.c {
             'x' => {
@@ -253,7 +271,8 @@ impl Reader {
 
     /// Takes an escape of one character.
     fn put_escaped(&mut self, role: Role, begun: u64, here: Here) -> Result<(), Stop>
-        ensures { Leaves (shown self.new) result (put_escaped (frames_of self.old.frames.items) self.old.text role begun here.at here.c) }
+        ensures { Leaves (shown self.new) result
+            (put_escaped (frames_of self.old.frames.items) self.old.text role begun here.at here.c) }
     {
         let code = escaped(here.c);
         if code == 256 {
@@ -266,7 +285,8 @@ impl Reader {
 
     /// The last digit of an escape is read.
     fn end_digits(&mut self, role: Role, begun: u64, at: u64, number: u16) -> Result<(), Stop>
-        ensures { Leaves (shown self.new) result (end_digits (frames_of self.old.frames.items) self.old.text role begun at number) }
+        ensures { Leaves (shown self.new) result
+            (end_digits (frames_of self.old.frames.items) self.old.text role begun at number) }
     {
         match char::from_u32(number as u32) {
             Some(c) => {
@@ -288,7 +308,9 @@ impl Reader {
         number: u16,
         here: Here,
     ) -> Result<(), Stop>
-        ensures { Leaves (shown self.new) result (in_digits (frames_of self.old.frames.items) self.old.text role begun left number here.at here.c) }
+        ensures { Leaves (shown self.new) result
+            (in_digits (frames_of self.old.frames.items) self.old.text role begun left number
+            here.at here.c) }
     {
         let value = digit(here.c as u32);
         if value == 16 {
@@ -307,7 +329,7 @@ impl Reader {
         Ok(())
     }
 
-    /// Takes a colon behind a quoted text.
+    /// Takes a colon after a quoted text.
     fn quoted_key(
         &mut self,
         role: Role,
@@ -315,7 +337,9 @@ impl Reader {
         here: Here,
         rest: &Rest<'_>,
     ) -> Result<(), Stop>
-        ensures { Leaves (shown self.new) result (quoted_key (frames_of self.old.frames.items) (string_bytes self.old.quoted) role begun here.at rest.now) }
+        ensures { Leaves (shown self.new) result
+            (quoted_key (frames_of self.old.frames.items) (string_bytes self.old.quoted) role begun
+            here.at rest.now) }
     {
         if rest.ends_word() || is_value_only(role) {
             let key = mem::replace(&mut self.quoted, String::new(self.alloc));
@@ -325,7 +349,7 @@ impl Reader {
         }
     }
 
-    /// Takes what stands behind a quoted text.
+    /// Takes what stands after a quoted text.
     #[tactic(auto, unfolding(crate::specs::Pieces::in_after_quoted))]
     pub(crate) fn in_after_quoted(
         &mut self,
@@ -336,7 +360,8 @@ impl Reader {
         rest: &Rest<'_>,
     ) -> Result<(), Stop>
         ensures { Leaves (shown self.new) result
-            (in_after_quoted (frames_of self.old.frames.items) (string_bytes self.old.quoted) role begun spaced here.at here.c rest.now) }
+            (in_after_quoted (frames_of self.old.frames.items) (string_bytes self.old.quoted) role
+            begun spaced here.at here.c rest.now) }
     {
         if here.c == ' ' {
             self.place = Place::Quoted {

@@ -1,11 +1,14 @@
-//! Where values begin, and what stands behind them.
+//! Where values begin, and what stands after them.
 
 ghost use Rattle.std.specs.Prelude.{◌≡◌};
 ghost use Rattle.edt_base.specs.YamlData.{value_of};
 ghost use Rattle.yaml_profile.specs.Answers.{Leaves};
-ghost use Rattle.yaml_profile.specs.Signs.{is_blank, is_flow_sign, is_word_sign, is_left_out, begins_nothing, place_of, behind};
-ghost use Rattle.yaml_profile.specs.Pieces.{after_item, end_flow, in_after_value, begin_block, begin_sign, is_value_sign, begin_plain, begin_value, in_at_value};
-ghost use Rattle.yaml_profile.specs.Shown.{frames_of, shown, waiting_of};
+ghost use Rattle.yaml_profile.specs.Signs.{is_blank, is_flow_sign, is_word_sign, is_left_out};
+ghost use Rattle.yaml_profile.specs.Signs.{begins_nothing, place_of, behind};
+ghost use Rattle.yaml_profile.specs.Pieces.{after_item, end_flow, in_after_value, begin_block};
+ghost use Rattle.yaml_profile.specs.Pieces.{begin_sign, is_value_sign, begin_plain, begin_value};
+ghost use Rattle.yaml_profile.specs.Pieces.{in_at_value};
+ghost use Rattle.yaml_profile.specs.Inner.Shown.{frames_of, shown, waiting_of};
 ghost use Rattle.yaml_profile.specs.Fronts.{value_so_far};
 
 use crate::block_text::ScalarText;
@@ -58,14 +61,15 @@ fn begins_nothing(c: char) -> bool
     c == ',' || c == ']' || c == '}' || c == '#' || c == '@' || c == '`'
 }
 
-/// The byte at which a character that isn't taken is refused: a carriage return may begin a line end.
+/// The byte at which a character that isn't taken is refused: a carriage return may begin a line
+/// end.
 pub(crate) fn place_of(here: Here) -> u64
     ensures { result ≡ place_of here.at here.c }
 {
     if here.c == '\r' { here.at + 1 } else { here.at }
 }
 
-/// The byte at which what stands behind a character is refused.
+/// The byte at which what stands after a character is refused.
 pub(crate) fn behind(here: Here, rest: &Rest<'_>) -> u64
     ensures { result ≡ behind here.at rest.now }
 {
@@ -94,10 +98,11 @@ pub(crate) fn take_so_far(
 }
 
 impl Reader {
-    /// Takes what stands behind an item of a flow list.
+    /// Takes what stands after an item of a flow list.
     #[tactic(auto, unfolding(crate::specs::Pieces::after_item), using(crate::proofs::FrameLaws::map_push))]
     pub(crate) fn after_item(&mut self, value: Yaml, here: Here) -> Result<(), Stop>
-        ensures { Leaves (shown self.new) result (after_item (frames_of self.old.frames.items) (value_of value) here.at here.c) }
+        ensures { Leaves (shown self.new) result
+            (after_item (frames_of self.old.frames.items) (value_of value) here.at here.c) }
     {
         match pop(&mut self.frames) {
             Some(Frame::Flow { mut items }) => {
@@ -139,7 +144,7 @@ impl Reader {
         }
     }
 
-    /// Takes what stands behind a whole value.
+    /// Takes what stands after a whole value.
     #[tactic(auto, unfolding(crate::specs::Pieces::in_after_value))]
     pub(crate) fn in_after_value(
         &mut self,
@@ -148,7 +153,8 @@ impl Reader {
         here: Here,
     ) -> Result<(), Stop>
         ensures { Leaves (shown self.new) result
-            (in_after_value (frames_of self.old.frames.items) (waiting_of waiting self.old.text (value_of self.old.value)) spaced here.at here.c) }
+            (in_after_value (frames_of self.old.frames.items)
+            (waiting_of waiting self.old.text (value_of self.old.value)) spaced here.at here.c) }
     {
         if here.c == ' ' {
             self.place = Place::After {
@@ -173,7 +179,8 @@ impl Reader {
 
     /// A block scalar begins.
     fn begin_block(&mut self, folded: bool, at: u64) -> Result<(), Stop>
-        ensures { Leaves (shown self.new) result (begin_block (frames_of self.old.frames.items) folded at) }
+        ensures { Leaves (shown self.new) result
+            (begin_block (frames_of self.old.frames.items) folded at) }
     {
         if is_flow(self.frames.as_slice()) {
             return Err(stop_at(Rule::Y1, at));
@@ -186,10 +193,11 @@ impl Reader {
         Ok(())
     }
 
-    /// Takes the sign of a value that isn't a text.
+    /// Takes the indicator of a value that isn't a text.
     #[tactic(auto, unfolding(crate::specs::Pieces::begin_sign))]
     fn begin_sign(&mut self, here: Here) -> Result<(), Stop>
-        ensures { Leaves (shown self.new) result (begin_sign (frames_of self.old.frames.items) here.at here.c) }
+        ensures { Leaves (shown self.new) result
+            (begin_sign (frames_of self.old.frames.items) here.at here.c) }
     {
         match here.c {
             '[' => self.open_flow(here.at),
@@ -201,7 +209,8 @@ impl Reader {
 
     /// A plain text begins.
     fn begin_plain(&mut self, role: Role, here: Here) -> Result<(), Stop>
-        ensures { Leaves (shown self.new) result (begin_plain (frames_of self.old.frames.items) role here.at here.c) }
+        ensures { Leaves (shown self.new) result
+            (begin_plain (frames_of self.old.frames.items) role here.at here.c) }
     {
         self.text = FoldingText::new(self.alloc);
         if here.c == '\t' {
@@ -225,7 +234,8 @@ impl Reader {
         here: Here,
         rest: &Rest<'_>,
     ) -> Result<(), Stop>
-        ensures { Leaves (shown self.new) result (begin_value (frames_of self.old.frames.items) role here.at here.c rest.now) }
+        ensures { Leaves (shown self.new) result
+            (begin_value (frames_of self.old.frames.items) role here.at here.c rest.now) }
     {
         let begun = here.at;
         if here.c == '"' {
@@ -261,7 +271,9 @@ impl Reader {
         here: Here,
         rest: &Rest<'_>,
     ) -> Result<(), Stop>
-        ensures { Leaves (shown self.new) result (in_at_value (frames_of self.old.frames.items) start mapped spaced here.at here.c rest.now) }
+        ensures { Leaves (shown self.new) result
+            (in_at_value (frames_of self.old.frames.items) start mapped spaced here.at here.c
+            rest.now) }
     {
         if here.c == ' ' {
             self.place = Place::Value {

@@ -19,7 +19,8 @@ pub record IndexData : Type 0 where
   pub props : List (List ℕ)
 
 -- a sorted list of entries through which nodes are found by what they have, as a label
-pub record IsIndex {E K : Type 0} (cmp : K → K → Ordering) (key : E → K) (node : E → ℕ) (has : K → NodeData → Bool) (nodes : List NodeData) (es : List E) : Type 0 where
+pub record IsIndex {E K : Type 0} (cmp : K → K → Ordering) (key : E → K) (node : E → ℕ)
+    (has : K → NodeData → Bool) (nodes : List NodeData) (es : List E) : Type 0 where
   -- the entries stand in the order of their keys
   pub sorted : IsSortedByKey key cmp es
   -- each entry leads to a node that has its key
@@ -29,7 +30,8 @@ pub record IsIndex {E K : Type 0} (cmp : K → K → Ordering) (key : E → K) (
 
 -- the label at a place among a node's labels, empty past them
 abbrev pub label_at : List NodeData → LabelPlace → List ℕ
-label_at nodes e = unwrap_or (option_and_then (λ (n : NodeData). slice_get n.labels e.label) (slice_get nodes e.node)) []
+label_at nodes e =
+    unwrap_or (option_and_then (λ (n : NodeData). slice_get n.labels e.label) (slice_get nodes e.node)) []
 
 -- the entries of each node in turn, where the first node stands at a place
 abbrev pub entries_from : {E : Type 0} → (ℕ → NodeData → List E) → ℕ → List NodeData → List E

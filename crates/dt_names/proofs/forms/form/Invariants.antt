@@ -1,5 +1,5 @@
 use Rattle.std.proofs.Common.{◌≡◌, ◌++◌, length, string_bytes}
-use Rattle.edt_base.specs.Marks.{form_of}
+use Rattle.edt_base.specs.Forms.{form_of}
 use Rattle.dt_names.proofs.forms.form.Given as goal
 
 abbrev pub invariant-loop-byte : goal.invariant-loop-byte

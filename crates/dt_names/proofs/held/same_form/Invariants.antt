@@ -1,5 +1,5 @@
 use Rattle.std.proofs.Common.{◌≡◌, length}
-use Rattle.edt_base.specs.Marks.{form_of}
+use Rattle.edt_base.specs.Forms.{form_of}
 use Rattle.dt_names.proofs.held.same_form.Given as goal
 
 abbrev pub invariant-loop-x : goal.invariant-loop-x

@@ -1,5 +1,5 @@
 use Rattle.std.proofs.Common.{◌≡◌, length}
-use Rattle.dt_names.specs.Facts.{okay_of}
+use Rattle.edt_base.specs.Nodes.{okay_of}
 use Rattle.dt_names.specs.Places.{places_in}
 use Rattle.dt_names.proofs.list.next_okay_place.Given as goal
 

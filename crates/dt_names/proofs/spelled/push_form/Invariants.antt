@@ -1,6 +1,6 @@
 use Rattle.std.proofs.Common.{◌≡◌, ◌++◌, take}
 use Rattle.std.specs.List.{flat_map}
-use Rattle.edt_base.specs.Marks.{form_char}
+use Rattle.edt_base.specs.Forms.{form_char}
 use Rattle.dt_names.proofs.spelled.push_form.Given as goal
 
 abbrev pub invariant-loop-byte : goal.invariant-loop-byte

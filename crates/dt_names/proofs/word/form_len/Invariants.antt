@@ -1,5 +1,5 @@
 use Rattle.std.proofs.Common.{◌≡◌, ◌+◌, ◌-◌, ◌^◌, ◌<◌, length, min}
-use Rattle.edt_base.specs.Marks.{form_of}
+use Rattle.edt_base.specs.Forms.{form_of}
 use Rattle.dt_names.proofs.word.form_len.Given as goal
 
 abbrev pub invariant-loop-byte : goal.invariant-loop-byte

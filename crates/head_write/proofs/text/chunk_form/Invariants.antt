@@ -1,7 +1,7 @@
 use Rattle.std.proofs.Common.{◌≡◌, ◌≤◌, take}
 use Rattle.std.specs.List.{flat_map}
 use Rattle.arrayvec.specs.ArrayVec.{array_vec_len}
-use Rattle.edt_base.specs.Marks.{form_char}
+use Rattle.edt_base.specs.Forms.{form_char}
 use Rattle.head_write.proofs.text.chunk_form.Given as goal
 
 abbrev pub invariant-loop-byte : goal.invariant-loop-byte

@@ -1,5 +1,5 @@
 use Rattle.std.proofs.Common.{◌≡◌, ◌++◌, List, ℕ, length, true}
-use Rattle.edt_base.specs.Marks.{form_of}
+use Rattle.edt_base.specs.Forms.{form_of}
 use Rattle.head_write.specs.Put.{Put}
 use Rattle.head_write.proofs.text.put_form.Given as goal
 

@@ -1,12 +1,12 @@
 use Rattle.std.proofs.Common.{◌≡◌, ◌++◌, length}
 use Rattle.edt_base.specs.Cells.{cells_of}
 use Rattle.reg_ranges.specs.Cutting.{entries}
-use Rattle.reg_ranges.specs.Ranges.{front_range, range_cells}
+use Rattle.reg_ranges.specs.Ranges.{first_range, range_cells}
 use Rattle.reg_ranges.proofs.address_ranges.ranges_cut.Given as goal
 
 abbrev pub invariant-loop-cells : goal.invariant-loop-cells
-invariant-loop-cells l = l.ranges.items ++ entries (front_range l.shape) (range_cells l.shape) (cells_of l.cells)
-    ≡ entries (front_range l.shape) (range_cells l.shape) (cells_of l.initial.cells)
+invariant-loop-cells l = l.ranges.items ++ entries (first_range l.shape) (range_cells l.shape) (cells_of l.cells)
+    ≡ entries (first_range l.shape) (range_cells l.shape) (cells_of l.initial.cells)
 
 abbrev pub decreases-loop-cells : goal.decreases-loop-cells
 decreases-loop-cells l = length (cells_of l.cells)

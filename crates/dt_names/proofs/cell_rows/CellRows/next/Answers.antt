@@ -1,6 +1,6 @@
 use Rattle.std.proofs.Common.{◌≡◌, ℕ, List, [], ◌∷◌, ◌++◌, refl, sym, ◌∙◌, append_assoc, length, arith}
 use Rattle.std.specs.List.{flat_map}
-use Rattle.edt_base.specs.IndexData.{path_at}
+use Rattle.edt_base.specs.Nodes.{path_at}
 use Rattle.dt_names.specs.Facts.{FactData, cell_facts}
 use Rattle.dt_names.specs.Rows.{at_pieces}
 use Rattle.dt_names.proofs.cell_rows.CellRows.next.Goals as goal

@@ -1,7 +1,7 @@
 use Rattle.std.proofs.Common.{◌≡◌, ◌++◌, ◌∷◌, [], ℕ, List, Option, Some, sym, ap, codes, ◌∙◌}
 use Rattle.std.specs.Option.{option_map_or}
 use Rattle.edt_base.specs.EntryData.{EntryData}
-use Rattle.edt_base.specs.IndexData.{path_at}
+use Rattle.edt_base.specs.Nodes.{path_at}
 use Rattle.dt_names.specs.Facts.{FactData, irq_lines, irq_facts}
 use Rattle.dt_names.specs.Pieces.{lit, form, num}
 use Rattle.dt_names.proofs.cell_rows.EntryRows.of_irq.Goals as goal

@@ -1,6 +1,6 @@
 use Rattle.std.proofs.Common.{◌≡◌, ◌++◌, [], length, unwrap_or}
 use Rattle.std.specs.List.{flat_map}
-use Rattle.edt_base.specs.IndexData.{path_at}
+use Rattle.edt_base.specs.Nodes.{path_at}
 use Rattle.dt_names.specs.Facts.{prop_facts}
 use Rattle.dt_names.proofs.prop_rows.PropsRows.next.Given as goal
 
