@@ -1,14 +1,8 @@
 -- The steps of a run keep its promises.
 use Rattle.std.proofs.Common.{◌≡◌, ◌+◌, ◌-◌, ◌^◌, ◌<◌, ◌≤◌, ◌++◌, ◌∙◌, ◌⊎◌, ℕ, List, [], ◌∷◌, Option, Some, None, IfSome, IsTrue, length, refl, sym, ap, subst, true, false, Bool, if◌then◌else◌, inl, inr, arith}
 use Rattle.std.proofs.lemmas.List.{append-nil}
-<<<<<<< HEAD
 use Rattle.edt_base.specs.declared.outside.Call.{Call}
 use Rattle.edt_base.specs.Outside.{FilesSeen, SinkSeen, Rose, Gains, GainsPrefix, IsSure, Wrote, held_of}
-=======
-use Rattle.std.specs.Option.{unwrap_or}
-use Rattle.edt_base.specs.declared.outside.Call.TheVariants as call
-use Rattle.edt_base.specs.Outside.{FilesSeen, SinkSeen, Rose, Gains, GainsPrefix, IsSure, Wrote, held_of, content}
->>>>>>> 99673ea41607f94783394da33ddcd534c1d61c2b
 use Rattle.edt_run.specs.declared.top.Status.{Status}
 use Rattle.edt_run.specs.declared.top.Status.TheVariants as status
 use Rattle.edt_run.specs.Answer.{Answer, usage_line, write_line, memory_line, read_line}
@@ -53,7 +47,6 @@ plain_answer : (old new : FilesSeen) (job : Option JobData) (said : Status) (wan
 plain_answer old new job said wanted p (inl h) = h
 plain_answer old new job said wanted p (inr h) = absurd (plain_stop old new job said wanted p h)
 
-<<<<<<< HEAD
 -- a line with its cause, by the status
 cause_as : (r : Run) (said : Status) (wanted : Answer) → said ≡ wanted.status → IsWantedAs r.files_old r.files_new (job_of r.words) said wanted → HasCause r said wanted.line
 cause_as r status.Read wanted is h = h.1
@@ -76,24 +69,6 @@ nil_before [] ys e = refl
 nil_before (x ∷ xs) ys e = cc
 
 -- of no text nothing was gained
-=======
--- what the output gained, whatever text it was
-gained_front : (old new : SinkSeen) (text : List ℕ) (written : Bool) → Wrote old new text written → GainsPrefix old new text
-gained_front old new text true wrote = (text, [], sym (append-nil text), wrote.taken)
-gained_front old new text false wrote = wrote.taken.1
-
--- no text is a front of every text
-front_of_any : (old new : SinkSeen) (text other : List ℕ) → text ≡ [] → GainsPrefix old new text → GainsPrefix old new other
-front_of_any old new text other none gained =
-    let nil : gained.0 ≡ [] = append_nil-front gained.0 gained.1 (sym gained.2 ∙ none) in
-    ([], other, refl, subst (λ t. Gains old new t) nil gained.3)
-  where
-    append_nil-front : (xs ys : List ℕ) → xs ++ ys ≡ [] → xs ≡ []
-    append_nil-front [] ys e = refl
-    append_nil-front (x ∷ xs) ys e = cc
-
--- a text that wasn't there was gained whole
->>>>>>> 99673ea41607f94783394da33ddcd534c1d61c2b
 gained_nothing : (old new : SinkSeen) (text : List ℕ) → text ≡ [] → GainsPrefix old new text → Gains old new []
 gained_nothing old new text none gained =
     subst (λ t. Gains old new t) (nil_before gained.0 gained.1 (sym gained.2 ∙ none)) gained.3
@@ -117,14 +92,8 @@ record Steps (r : Run) (wanted : Answer) (written noted : Bool) : Type 0 where
 steps_of : (r : Run) (ran : Ran r) → Steps r ran.wanted ran.written ran.noted
 steps_of r ran = record { files = ran.files; idle = ran.idle; cause = ran.cause; output = ran.output; note = ran.note; status = ran.status }
 
-<<<<<<< HEAD
 either_in : (r : Run) (wanted : Answer) (written noted : Bool) → Steps r wanted written noted → IsEither r.files_old r.files_new (job_of r.words) wanted.status wanted
 either_in r wanted written noted steps = either r.files_old r.files_new (job_of r.words) wanted.status wanted steps.cause
-=======
--- the output gained a front of the text that was wanted
-out_front : (r : Run) (wanted : Status) (text : List ℕ) (written noted : Bool) → Steps r wanted text written noted → GainsPrefix r.out_old r.out_new text
-out_front r wanted text written noted steps = gained_front r.out_old r.out_new text written steps.output
->>>>>>> 99673ea41607f94783394da33ddcd534c1d61c2b
 
 prefix_in : (r : Run) (wanted : Answer) (written noted : Bool) → Steps r wanted written noted → GainsPrefix r.out_old r.out_new wanted.text
 prefix_in r wanted written noted steps = gained_prefix r.out_old r.out_new wanted.text written steps.output
@@ -141,62 +110,9 @@ whole_of r wanted true false steps isnt = absurd (isnt steps.status)
 whole_of r wanted false true steps isnt = absurd (isnt steps.status)
 whole_of r wanted false false steps isnt = absurd (isnt steps.status)
 
-<<<<<<< HEAD
 as_wanted : (r : Run) (wanted : Answer) (said : Status) → IsWantedAs r.files_old r.files_new (job_of r.words) wanted.status wanted → IsWhole r wanted → r.status ≡ said
     → IsWantedAs r.files_old r.files_new (job_of r.words) said wanted
 as_wanted r wanted said cause whole is = subst (λ s. IsWantedAs r.files_old r.files_new (job_of r.words) s wanted) (sym whole.status ∙ is) cause
-=======
--- the output gained a front of the answer's text
-front_either : (r : Run) (wanted : Status) (text : List ℕ) (answer : Status) (other : List ℕ)
-    → GainsPrefix r.out_old r.out_new text → IsAgainst r wanted text answer other → GainsPrefix r.out_old r.out_new other
-front_either r wanted text answer other gained (inl same) = subst (λ t. GainsPrefix r.out_old r.out_new t) same.1 gained
-front_either r wanted text answer other gained (inr failed) = front_of_any r.out_old r.out_new text other failed.0 gained
-
--- an output with sure room for the answer's text didn't fail
-sure_either : (r : Run) (wanted : Status) (text : List ℕ) (written : Bool) (answer : Status) (other : List ℕ)
-    → Wrote r.out_old r.out_new text written → IsAgainst r wanted text answer other → length other ≤ r.out_old.room
-    → IsSure r.out_old r.out_new (length other)
-sure_either r wanted text written answer other wrote (inl same) fits =
-    let room : length text ≤ r.out_old.room = subst (λ t. length t ≤ r.out_old.room) (sym same.1) fits in
-    subst (λ t. IsSure r.out_old r.out_new (length t)) same.1 (wrote.sure room).1
-sure_either r wanted text written answer other wrote (inr failed) fits =
-    let none : length text ≡ 0 = ap length failed.0 in
-    let room : length text ≤ r.out_old.room = omega arith in
-    longer_sure r.out_old r.out_new (length text) (length other) (omega arith) (wrote.sure room).1
-
--- where nothing failed, the status is the answer's or that of want of memory
-complete_either : (r : Run) (wanted : Status) (text : List ℕ) (written noted : Bool) (answer : Status) (other : List ℕ)
-    → Steps r wanted text written noted → IsAgainst r wanted text answer other → NothingRose r → (r.status ≡ answer) ⊎ (r.status ≡ status.Memory)
-complete_either r wanted text true true answer other steps (inl same) none = inl (steps.status ∙ same.0)
-complete_either r wanted text true true answer other steps (inr failed) none = inr (steps.status ∙ memory_of wanted failed.1)
-  where
-    memory_of : (s : Status) → IsFailure r.files_old r.files_new s → s ≡ status.Memory
-    memory_of status.Read rose = absurd (none.0 rose)
-    memory_of status.Memory _ = refl
-    memory_of _ h = absurd h
-complete_either r wanted text true false answer other steps against none = absurd (none.2 steps.note.taken.0)
-complete_either r wanted text false noted answer other steps against none = absurd (none.1 steps.output.taken.0)
-
--- with a plain status, the status is what was wanted, and all was written
-record IsWhole (r : Run) (wanted : Status) (text : List ℕ) : Type 0 where
-  status : r.status ≡ wanted
-  gained : Gains r.out_old r.out_new text
-  noted : Gains r.note_old r.note_new (note_line r.words wanted)
-
-whole_of : (r : Run) (wanted : Status) (text : List ℕ) (written noted : Bool) → Steps r wanted text written noted → (r.status ≡ status.Write → ⊥) → IsWhole r wanted text
-whole_of r wanted text true true steps isnt = record { status = steps.status; gained = steps.output.taken; noted = steps.note.taken }
-whole_of r wanted text true false steps isnt = absurd (isnt steps.status)
-whole_of r wanted text false true steps isnt = absurd (isnt steps.status)
-whole_of r wanted text false false steps isnt = absurd (isnt steps.status)
-
--- the cause of what was wanted is the cause of the status
-cause_of : (r : Run) (wanted : Status) (text : List ℕ) → IsCause r.files_old r.files_new (job r.words) wanted text → r.status ≡ wanted
-    → IsCause r.files_old r.files_new (job r.words) r.status text
-cause_of r wanted text cause is = subst (λ s. IsCause r.files_old r.files_new (job r.words) s text) (sym is) cause
-
-plain_isnt_write : (s : Status) → IsTrue (is_plain s) → s ≡ status.Write → ⊥
-plain_isnt_write s plain is = let no : false ≡ true = subst (λ t. is_plain t ≡ true) is plain in cc
->>>>>>> 99673ea41607f94783394da33ddcd534c1d61c2b
 
 isnt_write : (s other : Status) → s ≡ other → (other ≡ status.Write → ⊥) → s ≡ status.Write → ⊥
 isnt_write s other is isnt write = isnt (sym is ∙ write)
