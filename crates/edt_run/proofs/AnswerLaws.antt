@@ -1,13 +1,12 @@
 -- Each job has one answer, which tells of the words and the files, and a refusal writes nothing.
-use Rattle.std.proofs.Common.{◌≡◌, ◌∙◌, ◌⊎◌, if◌then◌else◌, ℕ, Bool, true, false, List, [], ◌∷◌, Option, Some, None, MatchOption, IfSome, IsTrue, map, refl, sym, ap, subst, inl, inr}
+use Rattle.std.proofs.Common.{◌≡◌, ◌∙◌, if◌then◌else◌, ℕ, Bool, true, false, List, [], ◌∷◌, Option, Some, None, MatchOption, IsTrue, refl, sym, ap, subst, inl, inr}
 use Rattle.edt_base.specs.declared.fault.Fault.{Fault}
 use Rattle.edt_base.specs.declared.fault.Rule.TheVariants as rule
 use Rattle.edt_base.specs.declared.fault.Place.TheVariants as place
 use Rattle.edt_base.specs.FaultText.{is_limit}
-use Rattle.edt_base.specs.Outside.{FilesSeen, content, held_of}
+use Rattle.edt_base.specs.Outside.{FilesSeen, held_of}
 use Rattle.edt_run.specs.declared.asked.Cmd.{Cmd}
 use Rattle.edt_run.specs.declared.asked.Cmd.TheVariants as cmd
-use Rattle.edt_run.specs.declared.top.Status.{Status}
 use Rattle.edt_run.specs.declared.top.Status.TheVariants as status
 use Rattle.edt_run.specs.Answer.{Answer, Given, IsGiven, done, refusal, refused, fault_line, too_long, first_above, source_limit}
 use Rattle.edt_run.specs.Header.{header}

@@ -1,5 +1,5 @@
 -- The steps of a run keep its promises.
-use Rattle.std.proofs.Common.{◌≡◌, ◌+◌, ◌-◌, ◌^◌, ◌<◌, ◌≤◌, ◌++◌, ◌∙◌, ◌⊎◌, ℕ, List, [], ◌∷◌, Option, Some, None, IfSome, IsTrue, length, refl, sym, ap, subst, true, false, Bool, if◌then◌else◌, inl, inr, arith}
+use Rattle.std.proofs.Common.{◌≡◌, ◌-◌, ◌^◌, ◌<◌, ◌≤◌, ◌++◌, ◌∙◌, ◌⊎◌, ℕ, List, [], ◌∷◌, Option, Some, None, IfSome, IsTrue, length, refl, sym, ap, subst, true, false, Bool, if◌then◌else◌, inl, inr, arith}
 use Rattle.std.proofs.lemmas.List.{append-nil}
 use Rattle.edt_base.specs.declared.outside.Call.{Call}
 use Rattle.edt_base.specs.Outside.{FilesSeen, SinkSeen, Rose, Gains, GainsPrefix, IsSure, Wrote, held_of}
@@ -7,9 +7,9 @@ use Rattle.edt_run.specs.declared.top.Status.{Status}
 use Rattle.edt_run.specs.declared.top.Status.TheVariants as status
 use Rattle.edt_run.specs.Answer.{Answer, usage_line, write_line, memory_line, read_line}
 use Rattle.edt_run.specs.Job.{JobData, job_of}
-use Rattle.edt_run.specs.Promises.{Run, KeepsPromises, NothingRose, IsAnswer, IsAnswerIn, IsAnswerFrom, IsReadOf, IsReadLine, ReadFailed, HasCause, KeepsFiles, OfAnswer, EndsWithAnswer, is_plain, writes_early}
+use Rattle.edt_run.specs.Promises.{Run, KeepsPromises, NothingRose, IsAnswer, IsAnswerIn, IsAnswerFrom, IsReadOf, IsReadLine, ReadFailed, HasCause, KeepsFiles, EndsWithAnswer, is_plain}
 use Rattle.edt_run.specs.Steps.{IsWantedAs, Ran}
-use Rattle.edt_run.proofs.AnswerLaws.{one_from, answer_plain, answer_quiet, answer_used}
+use Rattle.edt_run.proofs.AnswerLaws.{one_from, answer_quiet, answer_used}
 
 -- ---- what is wanted
 
@@ -124,9 +124,13 @@ plain_isnt_write s plain is = let no : false ≡ true = subst (λ t. is_plain t 
 
 keeps_answer : (r : Run) (wanted : Answer) → IsEither r.files_old r.files_new (job_of r.words) wanted.status wanted → IsWhole r wanted → IsTrue (is_plain r.status)
     → (answer : Answer) × (IsAnswerIn r answer) × (r.status ≡ answer.status) × (Gains r.out_old r.out_new answer.text) × (Gains r.note_old r.note_new answer.line)
-keeps_answer r wanted e whole plain =
-    (wanted, plain_answer r.files_old r.files_new (job_of r.words) wanted.status wanted (subst (λ s. IsTrue (is_plain s)) whole.status plain) e,
-    whole.status, whole.gained, whole.noted)
+keeps_answer r wanted e whole plain = (
+  wanted,
+  plain_answer r.files_old r.files_new (job_of r.words) wanted.status wanted (subst (λ s. IsTrue (is_plain s)) whole.status plain) e,
+  whole.status,
+  whole.gained,
+  whole.noted,
+)
 
 keeps_output : (r : Run) (wanted : Answer) → IsEither r.files_old r.files_new (job_of r.words) wanted.status wanted → GainsPrefix r.out_old r.out_new wanted.text
     → Gains r.out_old r.out_new [] ⊎ ((answer : Answer) × (IsAnswerIn r answer) × GainsPrefix r.out_old r.out_new answer.text)
@@ -244,9 +248,11 @@ keeps_steps r wanted written noted steps = record {
       let none = usage_of r wanted h (sym whole.status ∙ is) in
       (none, usage_noted r wanted h none whole.noted);
   no_job = λ none.
-      let text = no_job_text r wanted none (either_in r wanted written noted steps) in
-      (steps.idle none, gained_nothing r.out_old r.out_new wanted.text text (prefix_in r wanted written noted steps),
-      no_job_ends r wanted written noted steps text (no_job_status r wanted wanted.status refl none steps.cause));
+      let text = no_job_text r wanted none (either_in r wanted written noted steps) in (
+        steps.idle none,
+        gained_nothing r.out_old r.out_new wanted.text text (prefix_in r wanted written noted steps),
+        no_job_ends r wanted written noted steps text (no_job_status r wanted wanted.status refl none steps.cause),
+      );
   read = λ is.
       let whole = whole_of r wanted written noted steps (isnt_write r.status status.Read is (λ e. cc)) in
       read_of r wanted (as_wanted r wanted status.Read steps.cause whole is).1 whole.noted;

@@ -1,5 +1,5 @@
 -- What a run decided and what became of writing it make the run.
-use Rattle.std.proofs.Common.{◌≡◌, ◌≤◌, ◌∙◌, ℕ, List, [], Option, Some, None, Result, Ok, Err, IfOk, IfSome, IsTrue, MatchOption, refl, sym, ap, subst, true, Bool, if◌then◌else◌}
+use Rattle.std.proofs.Common.{◌≡◌, ◌∙◌, ℕ, List, [], Option, Some, None, Result, Ok, Err, IfOk, IsTrue, MatchOption, refl, sym, subst, true}
 use Rattle.edt_base.specs.declared.outside.Call.TheVariants as call
 use Rattle.edt_base.specs.Outside.{FilesSeen, Wrote, held_of}
 use Rattle.edt_base.proofs.WriteLaws.{wrote_nothing}
@@ -7,10 +7,10 @@ use Rattle.edt_run.specs.declared.sources.Stop.{Stop}
 use Rattle.edt_run.specs.declared.sources.Stop.TheVariants as stop
 use Rattle.edt_run.specs.declared.top.Status.{Status}
 use Rattle.edt_run.specs.declared.top.Status.TheVariants as status
-use Rattle.edt_run.specs.Answer.{Answer, Given, IsGiven, refusal, refused, usage_line, memory_line, read_line, source_limit, first_above, too_long}
+use Rattle.edt_run.specs.Answer.{Answer, refusal, refused, usage_line, memory_line, too_long}
 use Rattle.edt_run.specs.Job.{JobData, job_of}
-use Rattle.edt_run.specs.Promises.{Run, IsAnswer, IsAnswerOf, IsAnswerFrom, IsReadLine, KeepsFiles, is_plain}
-use Rattle.edt_run.specs.Steps.{Ran, IsSaid, IsWanted, IsWantedAs, AreRead, AreAbove, IsReadStop, IsRefusedBy}
+use Rattle.edt_run.specs.Promises.{Run, IsAnswerOf, IsAnswerFrom, KeepsFiles, is_plain}
+use Rattle.edt_run.specs.Steps.{Ran, IsSaid, IsWanted, IsWantedAs, AreRead, IsReadStop, IsRefusedBy}
 use Rattle.edt_run.proofs.AnswerLaws.{answer_plain}
 
 pub map_ok : {X E : Type 0} (r : Result X E) (P Q : X → Type 0) → ((x : X) → P x → Q x) → IfOk r P → IfOk r Q

@@ -1,5 +1,5 @@
 -- Reading sources one by one within the limit.
-use Rattle.std.proofs.Common.{◌≡◌, ◌+◌, ◌-◌, ◌<◌, ◌≤◌, ◌++◌, ◌∙◌, ℕ, suc, Bool, true, false, List, [], ◌∷◌, Option, Some, None, IfSome, length, map, take, drop, refl, sym, ap, subst, arith, length-drop, append-nil}
+use Rattle.std.proofs.Common.{◌≡◌, ◌+◌, ◌-◌, ◌<◌, ◌++◌, ◌∙◌, ℕ, suc, List, [], ◌∷◌, Option, Some, None, IfSome, length, map, take, drop, refl, sym, ap, arith, append-nil}
 use Rattle.std.proofs.Math.ListN.{replicate}
 use Rattle.std.proofs.lemmas.List.{length-replicate, take-append-drop, length-append, length-map}
 use Rattle.std.proofs.lemmas.Grind.{common_steps}
@@ -27,8 +27,10 @@ read_all held names sources at left all as_many told left_is = record {
     none_left : (rest : List (List ℕ)) → first_above left rest [] ≡ None
     none_left [] = refl
     none_left (name ∷ rest) = refl
+
     take_all : take at names ≡ names
     take_all = grind (arith, common_steps, all)
+
     told_all : (h : Option (List (List ℕ × List ℕ))) → IfSome h (λ files. sources ≡ map (content files) (take at names)) → IfSome h (λ files. sources ≡ map (content files) names)
     told_all None t = tt
     told_all (Some files) t = t ∙ ap (map (content files)) take_all
@@ -50,13 +52,13 @@ above_at None names sources at left name in_names here as_many told left_is more
       as_many = count;
       told = tt;
       above = left_is (first ∷ rest) ∙ (ap (λ l. first_above left l (first ∷ rest)) here ∙ above_first left name (drop (suc at) names) first rest
-      (let n : length first ≡ suc left = length-replicate {A = ℕ} (suc left) 0 in omega arith));
+          (let n : length first ≡ suc left = length-replicate {A = ℕ} (suc left) 0 in omega arith));
     }
   where
     count : length (sources ++ (replicate {A = ℕ} (suc left) 0 ∷ replicate (length names - suc at) [])) ≡ length names
     count =
         let a : length (sources ++ (replicate {A = ℕ} (suc left) 0 ∷ replicate (length names - suc at) [])) ≡ length sources + length (replicate {A = ℕ} (suc left) 0 ∷ replicate (length names - suc at) []) =
-            length-append sources (replicate {A = ℕ} (suc left) 0 ∷ replicate (length names - suc at) []) in
+        length-append sources (replicate {A = ℕ} (suc left) 0 ∷ replicate (length names - suc at) []) in
         let b : length (replicate {A = List ℕ} (length names - suc at) []) ≡ length names - suc at = length-replicate {A = List ℕ} (length names - suc at) [] in
         let d : length (replicate {A = ℕ} (suc left) 0 ∷ replicate (length names - suc at) []) ≡ suc (length (replicate {A = List ℕ} (length names - suc at) [])) = refl in
         omega (arith, a, b, d, as_many, in_names)
@@ -67,7 +69,7 @@ above_at (Some files) names sources at left name in_names here as_many told left
       as_many = ap length whole ∙ length-map names (content files);
       told = whole;
       above = left_is rest ∙ (ap (λ l. first_above left l (map (content files) l)) here
-      ∙ above_first left name (drop (suc at) names) (content files name) (map (content files) (drop (suc at) names)) more);
+          ∙ above_first left name (drop (suc at) names) (content files name) (map (content files) (drop (suc at) names)) more);
     }
   where
     whole : sources ++ map (content files) (drop at names) ≡ map (content files) names

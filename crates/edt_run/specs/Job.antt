@@ -1,5 +1,5 @@
 -- What the words of a command line ask for: a job of the table of commands, or none.
-use Rattle.std.specs.Prelude.{◌<◌, ◌&&◌, ◌||◌, ℕ, Bool, not, List, [], ◌∷◌, Option, Some, None, codes, length, nat_eq, nat_le, option_and_then, if◌then◌else◌}
+use Rattle.std.specs.Prelude.{◌&&◌, ◌||◌, ℕ, Bool, not, List, [], ◌∷◌, Option, Some, None, codes, length, nat_eq, nat_le, option_and_then, if◌then◌else◌}
 use Rattle.std.specs.List.{list_all, starts_with, count_by}
 use Rattle.std.specs.Str.{bytes_eq}
 use Rattle.edt_run.specs.declared.asked.Cmd.{Cmd}

@@ -1,5 +1,5 @@
 -- What a run promises: the cause of each status, what the output gained, and what the note says.
-use Rattle.std.specs.Prelude.{◌≡◌, ◌-◌, ◌^◌, ◌<◌, ◌≤◌, ◌⊎◌, ℕ, Bool, true, false, IsTrue, List, [], ◌∷◌, Option, Some, None, MatchOption, IfSome, Contains, length, unwrap_or, if◌then◌else◌}
+use Rattle.std.specs.Prelude.{◌≡◌, ◌-◌, ◌^◌, ◌<◌, ◌≤◌, ◌⊎◌, ℕ, Bool, true, false, IsTrue, List, [], ◌∷◌, Option, Some, None, MatchOption, IfSome, Contains, length, if◌then◌else◌}
 use Rattle.edt_base.specs.declared.outside.Call.{Call}
 use Rattle.edt_base.specs.declared.outside.Call.TheVariants as call
 use Rattle.edt_base.specs.Outside.{FilesSeen, SinkSeen, Rose, Gains, GainsPrefix, IsSure, Wrote, held_of}

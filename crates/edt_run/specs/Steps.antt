@@ -1,5 +1,5 @@
 -- The steps of a run, as the code takes them: what it wants, and what became of writing it.
-use Rattle.std.specs.Prelude.{◌≡◌, ◌≤◌, ◌<◌, ◌++◌, ℕ, Bool, List, [], Option, Some, None, IfSome, Contains, length, map, string_bytes, if◌then◌else◌}
+use Rattle.std.specs.Prelude.{◌≡◌, ℕ, Bool, List, [], Option, Some, None, IfSome, Contains, length, map, string_bytes, if◌then◌else◌}
 use Rattle.edt_base.specs.declared.outside.Call.TheVariants as call
 use Rattle.edt_base.specs.Outside.{FilesSeen, SinkSeen, Rose, Wrote, held_of, content}
 use Rattle.edt_run.specs.declared.top.Status.{Status}
@@ -8,7 +8,7 @@ use Rattle.edt_run.specs.declared.decision.Decision.{Decision}
 use Rattle.edt_run.specs.declared.decision.Decision.TheVariants as decision
 use Rattle.edt_run.specs.declared.sources.Stop.{Stop}
 use Rattle.edt_run.specs.declared.sources.Stop.TheVariants as stop
-use Rattle.edt_run.specs.Answer.{Answer, Given, done, refusal, refused, memory_line, read_line, write_line, source_limit, first_above, too_long}
+use Rattle.edt_run.specs.Answer.{Answer, done, refusal, refused, memory_line, read_line, write_line, source_limit, first_above, too_long}
 use Rattle.edt_run.specs.Header.{header}
 use Rattle.edt_run.specs.Job.{JobData, job_of}
 use Rattle.edt_run.specs.Nodes.{forest_of}

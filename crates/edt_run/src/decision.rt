@@ -8,8 +8,8 @@ ghost use Rattle.edt_run.specs.Promises.{IsAnswerOf};
 ghost use Rattle.edt_run.specs.SmallAnswer.{IsSmallAnswer};
 ghost use Rattle.edt_run.specs.Steps.{IsRefusedBy, IsWanted, wanted_of};
 
-use crate::header::{HeaderWriter, prepare};
 use crate::asked::{Cmd, Job};
+use crate::header::{HeaderWriter, prepare};
 use crate::node::Node;
 use crate::reader::read_small;
 use crate::sources::{Stop, read_sources};
@@ -83,7 +83,13 @@ fn small_header(alloc: Global, name: &Text, source: &Bytes) -> Result<Decision, 
         }
         None => {
             let place = Place::Byte(name.copy(alloc)?, 0);
-            refuse(alloc, Fault { rule: Rule::S6, place })
+            refuse(
+                alloc,
+                Fault {
+                    rule: Rule::S6,
+                    place,
+                },
+            )
         }
     }
 }

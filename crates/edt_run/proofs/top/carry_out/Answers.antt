@@ -1,4 +1,4 @@
-use Rattle.std.proofs.Common.{◌≡◌, None, Some, refl, sym, rules, arith, string_bytes}
+use Rattle.std.proofs.Common.{◌≡◌, None, Some, refl, sym, arith, string_bytes}
 use Rattle.edt_run.specs.Job.{job_of}
 use Rattle.edt_run.proofs.RunLaws.{ran_refusal, ran_usage, ran_memory, is_job}
 use Rattle.edt_run.proofs.top.carry_out.Goals as goal
