@@ -8,4 +8,5 @@ use Rattle.dt_names.specs.Pieces.{spells}
 
 -- the names of two definitions are spelled alike exactly where their four texts are the same
 abbrev pub NamesHaveTexts : Type 0
-NamesHaveTexts = (b c : BoundData) (f g : FactData) → Contains (facts b) f → Contains (facts c) g → (spells (full_name f) ≡ spells (full_name g)) ↔ (texts_of f ≡ texts_of g)
+NamesHaveTexts = (b c : BoundData) (f g : FactData) → Contains (facts b) f → Contains (facts c) g
+    → (spells (full_name f) ≡ spells (full_name g)) ↔ (texts_of f ≡ texts_of g)

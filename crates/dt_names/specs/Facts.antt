@@ -20,7 +20,9 @@ use Rattle.dt_names.specs.Pieces.{PieceData, lit, form, str, num}
 use Rattle.dt_names.specs.declared.piece.Params.{Params}
 use Rattle.dt_names.specs.declared.piece.Params.TheVariants as params
 
--- a definition: the node that it belongs to, the comment that stands before it (of the first of a node and of the first of the tree), whether it goes on about the entry that the one before it is on, its name, its parameters and its body; a node's begins its name with the node's id, one of the tree has no id
+-- a definition: the node that it belongs to, the comment that stands before it (of the first of a node and of the first
+-- of the tree), whether it goes on about the entry that the one before it is on, its name, its parameters and its body;
+-- a node's begins its name with the node's id, one of the tree has no id
 pub record FactData : Type 0 where
   pub owner : ℕ
   pub heading : Option (List ℕ)
@@ -136,7 +138,8 @@ path_facts nodes n x =
     plain n x.path (lit (codes "_PATH") ∷ []) (str x.path ∷ [])
     ∷ plain n x.path (lit (codes "_FULL_NAME") ∷ []) (str x.name ∷ [])
     ∷ (there (option_map (λ up. plain n x.path (lit (codes "_PARENT") ∷ []) (id_at nodes up)) x.parent)
-    ++ there (option_map (λ up. plain n x.path (lit (codes "_CHILD_IDX") ∷ []) (num (child_place nodes up n) ∷ [])) x.parent))
+    ++ there (option_map
+    (λ up. plain n x.path (lit (codes "_CHILD_IDX") ∷ []) (num (child_place nodes up n) ∷ [])) x.parent))
 
 -- 3 and 4: the children
 abbrev pub child_rows : List NodeData → ℕ → List ℕ → List ℕ → List FactData
@@ -262,7 +265,8 @@ at_index name i = of_prop name (lit (codes "_IDX_") ∷ num i ∷ [])
 
 -- an element that is a number or a string
 abbrev pub item_rows : ℕ → List ℕ → List PieceData → PieceData → List FactData
-item_rows n path at item = plain n path (at ++ []) (item ∷ []) ∷ plain n path (at ++ lit (codes "_EXISTS") ∷ []) yes ∷ []
+item_rows n path at item = plain n path (at ++ []) (item ∷ []) ∷ plain n path (at
+    ++ lit (codes "_EXISTS") ∷ []) yes ∷ []
 
 -- an element on which `enum` may be tested
 abbrev pub item_facts : ℕ → List ℕ → List ℕ → List (ℕ × List ℕ) → ℕ → PieceData → List FactData
@@ -338,7 +342,8 @@ elem_count _ _ = None
 
 -- the properties whose elements are counted otherwise
 abbrev pub is_uncounted : List ℕ → Bool
-is_uncounted name = bytes_eq name (codes "reg") || bytes_eq name (codes "interrupts") || bytes_eq name (codes "ranges") || bytes_eq name (codes "dma-ranges")
+is_uncounted name = bytes_eq name (codes "reg") || bytes_eq name (codes "interrupts") || bytes_eq name (codes "ranges")
+    || bytes_eq name (codes "dma-ranges")
 
 -- an element as a walk visits it: the node, the property and the place
 abbrev pub elem_visit : List ℕ → List ℕ → ℕ → List PieceData
@@ -353,7 +358,8 @@ count_facts n path name count =
 abbrev pub counted : PropData → Option ℕ
 counted p = if is_uncounted p.name then None else elem_count p.ty p.val
 
--- the definitions of a property that makes some: its value with its choice, its elements, their number with the walks over them, and that the property is there
+-- the definitions of a property that makes some: its value with its choice, its elements, their number with the walks
+-- over them, and that the property is there
 abbrev pub shown_facts : List NodeData → ℕ → List ℕ → PropData → List FactData
 shown_facts nodes n path p =
     there (option_map (λ body. plain n path (of_prop p.name []) body) (value_body nodes p.val))
@@ -401,7 +407,8 @@ okay_facts nodes first i =
     ∷ fact first (lit (codes "DT_N_INST_") ∷ form i.compat ∷ lit (codes "_NUM_OKAY") ∷ []) params.Plain (num i.okay ∷ [])
     ∷ fact first (lit (codes "DT_FOREACH_OKAY_") ∷ form i.compat ∷ []) params.Fn (visits params.Fn (map (id_at nodes) (take i.okay i.nodes)))
     ∷ fact first (lit (codes "DT_FOREACH_OKAY_VARGS_") ∷ form i.compat ∷ []) params.FnVargs (visits params.FnVargs (map (id_at nodes) (take i.okay i.nodes)))
-    ∷ fact first (lit (codes "DT_FOREACH_OKAY_INST_") ∷ form i.compat ∷ []) params.Fn (visits params.Fn (map (λ k. num k ∷ []) (range_with_len 0 i.okay)))
+    ∷ fact first (lit (codes "DT_FOREACH_OKAY_INST_") ∷ form i.compat ∷ []) params.Fn (visits params.Fn (map
+    (λ k. num k ∷ []) (range_with_len 0 i.okay)))
     ∷ []
 
 abbrev pub inst_facts : List NodeData → InstData → List FactData

@@ -23,7 +23,8 @@ HasProp texts prop _ = Unit {0}
 -- the same of a definition that speaks of it
 abbrev pub SharesProp : List (List ℕ) → ℕ → Of → FactData → Type 0
 SharesProp texts prop (of.Prop name) f =
-    (f.rest ≡ lit (codes "_P_") ∷ form name.now ∷ drop 2 f.rest) × (slice_get texts prop ≡ Some (spells (lit (codes "_P_") ∷ form name.now ∷ [])))
+    (f.rest ≡ lit (codes "_P_") ∷ form name.now ∷ drop 2 f.rest)
+    × (slice_get texts prop ≡ Some (spells (lit (codes "_P_") ∷ form name.now ∷ [])))
 SharesProp texts prop _ f = Unit {0}
 
 -- the number, where there is one, is that of the entry that the definition before these is on

@@ -56,7 +56,8 @@ abbrev pub listed : Listed → List PieceData
 listed list.Nothing = []
 listed (list.One p) = piece_of p ∷ []
 listed (list.Visits ps things) = visits ps (things_of things)
-listed (list.Open ps t things) = lit (codes "fn(") ∷ ((thing_pieces t ++ lit (visit_end ps) ∷ []) ++ more_visits ps (things_of things))
+listed (list.Open ps t things) = lit (codes "fn(") ∷ ((thing_pieces t ++ lit (visit_end ps) ∷ [])
+    ++ more_visits ps (things_of things))
 listed (list.Within ps t things) = (thing_pieces t ++ lit (visit_end ps) ∷ []) ++ more_visits ps (things_of things)
 listed (list.MoreVisits ps things) = more_visits ps (things_of things)
 listed (list.Ords os) = ords_body os.now

@@ -111,5 +111,6 @@ abbrev pub okay_walks : List NodeData → ℕ → List ℕ → List ℕ → ℕ 
 okay_walks nodes first compat ids okay =
     fact first (lit (codes "DT_FOREACH_OKAY_") ∷ form compat ∷ []) params.Fn (visits params.Fn (map (id_at nodes) (take okay ids)))
     ∷ fact first (lit (codes "DT_FOREACH_OKAY_VARGS_") ∷ form compat ∷ []) params.FnVargs (visits params.FnVargs (map (id_at nodes) (take okay ids)))
-    ∷ fact first (lit (codes "DT_FOREACH_OKAY_INST_") ∷ form compat ∷ []) params.Fn (visits params.Fn (map (λ k. num k ∷ []) (range_with_len 0 okay)))
+    ∷ fact first (lit (codes "DT_FOREACH_OKAY_INST_") ∷ form compat ∷ []) params.Fn (visits params.Fn (map
+    (λ k. num k ∷ []) (range_with_len 0 okay)))
     ∷ []

@@ -58,7 +58,8 @@ impl<'a> CellRows<'a> {
 
     /// Of an entry's cells.
     fn narrow(bound: &'a Bound, n: u32, at: At<'a>, cells: &'a [(Text, u32)]) -> CellRows<'a>
-        ensures { result ≡ flat_map (cell_facts n (path_at bound.now.tree.nodes n) (at_pieces at.entry)) cells.now }
+        ensures { result
+            ≡ flat_map (cell_facts n (path_at bound.now.tree.nodes n) (at_pieces at.entry)) cells.now }
     {
         CellRows {
             bound,
@@ -72,7 +73,8 @@ impl<'a> CellRows<'a> {
 
     /// Of an interrupt's cells.
     fn wide(bound: &'a Bound, n: u32, at: At<'a>, cells: &'a [(Text, u64)]) -> CellRows<'a>
-        ensures { result ≡ flat_map (cell_facts n (path_at bound.now.tree.nodes n) (at_pieces at.entry)) cells.now }
+        ensures { result
+            ≡ flat_map (cell_facts n (path_at bound.now.tree.nodes n) (at_pieces at.entry)) cells.now }
     {
         CellRows {
             bound,
@@ -86,7 +88,8 @@ impl<'a> CellRows<'a> {
 
     /// Puts the next definition into `fact`; false exactly where none is left.
     fn next(&mut self, fact: &mut Fact<'a>) -> bool
-        ensures { MatchBool result (self.old ≡ fact.new ∷ self.new) ((self.old ≡ []) × (self.new ≡ [])) }
+        ensures { MatchBool result (self.old ≡ fact.new ∷ self.new) ((self.old ≡ [])
+            × (self.new ≡ [])) }
     {
         if self.exists.next(fact) {
             return true;
@@ -165,7 +168,8 @@ impl<'a> EntryLines<'a> {
 
     /// Of an interrupt.
     fn of_irq(bound: &'a Bound, n: u32, at: At<'a>, irq: &'a Irq) -> EntryLines<'a>
-        ensures { result ≡ irq_lines n (path_at bound.now.tree.nodes n) (at_pieces at.entry) irq.now }
+        ensures { result
+            ≡ irq_lines n (path_at bound.now.tree.nodes n) (at_pieces at.entry) irq.now }
     {
         EntryLines {
             exists: Single::new(bound, Some(number(n, at, Ending::Mark("_EXISTS"), 1))),
@@ -176,7 +180,8 @@ impl<'a> EntryLines<'a> {
 
     /// Of an entry of a phandle-array.
     fn of_entry(bound: &'a Bound, n: u32, at: At<'a>, entry: &'a Entry) -> EntryLines<'a>
-        ensures { result ≡ pha_lines bound.now.tree.nodes n (path_at bound.now.tree.nodes n) (at_pieces at.entry) entry.now }
+        ensures { result
+            ≡ pha_lines bound.now.tree.nodes n (path_at bound.now.tree.nodes n) (at_pieces at.entry) entry.now }
     {
         let controller = Body::Id(entry.controller.0 as usize);
         EntryLines {
@@ -188,7 +193,8 @@ impl<'a> EntryLines<'a> {
 
     /// Puts the next definition into `fact`; false exactly where none is left.
     fn next(&mut self, fact: &mut Fact<'a>) -> bool
-        ensures { MatchBool result (self.old ≡ fact.new ∷ self.new) ((self.old ≡ []) × (self.new ≡ [])) }
+        ensures { MatchBool result (self.old ≡ fact.new ∷ self.new) ((self.old ≡ [])
+            × (self.new ≡ [])) }
     {
         if self.exists.next(fact) {
             return true;
@@ -255,7 +261,8 @@ impl<'a> EntryRows<'a> {
         i: usize,
         entry: &'a Entry,
     ) -> EntryRows<'a>
-        ensures { result ≡ pha_facts bound.now.tree.nodes n (path_at bound.now.tree.nodes n) prop.entry.text.now i (Some entry.now) }
+        ensures { result
+            ≡ pha_facts bound.now.tree.nodes n (path_at bound.now.tree.nodes n) prop.entry.text.now i (Some entry.now) }
     {
         let indexed = EntryLines::of_entry(bound, n, At::Elem(prop, i), entry);
         match &entry.name {
@@ -275,7 +282,8 @@ impl<'a> EntryRows<'a> {
 
     /// Puts the next definition into `fact`; false exactly where none is left.
     pub(crate) fn next(&mut self, fact: &mut Fact<'a>) -> bool
-        ensures { MatchBool result (self.old ≡ fact.new ∷ self.new) ((self.old ≡ []) × (self.new ≡ [])) }
+        ensures { MatchBool result (self.old ≡ fact.new ∷ self.new) ((self.old ≡ [])
+            × (self.new ≡ [])) }
     {
         if self.indexed.next(fact) {
             return true;

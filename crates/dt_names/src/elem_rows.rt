@@ -56,7 +56,8 @@ impl<'a> ElemLines<'a> {
         i: usize,
         elem: Elem<'a>,
     ) -> ElemLines<'a>
-        ensures { result ≡ elem_lines bound.now.tree.nodes n (path_at bound.now.tree.nodes n) name.entry.text.now choices.now i (element elem.entry) }
+        ensures { result
+            ≡ elem_lines bound.now.tree.nodes n (path_at bound.now.tree.nodes n) name.entry.text.now choices.now i (element elem.entry) }
     {
         let at = At::Elem(name, i);
         match elem {
@@ -83,8 +84,8 @@ impl<'a> ElemLines<'a> {
         }
     }
 
-    // Puts those of another element in the place of these. Apart from `next`, which needn't hold room for
-    // them.
+    // Puts those of another element in the place of these. Apart from `next`, which needn't hold
+    // room for them.
     #[inline(never)]
     fn begin(
         &mut self,
@@ -95,13 +96,15 @@ impl<'a> ElemLines<'a> {
         i: usize,
         elem: Elem<'a>,
     )
-        ensures { self.new ≡ elem_lines bound.now.tree.nodes n (path_at bound.now.tree.nodes n) name.entry.text.now choices.now i (element elem.entry) }
+        ensures { self.new
+            ≡ elem_lines bound.now.tree.nodes n (path_at bound.now.tree.nodes n) name.entry.text.now choices.now i (element elem.entry) }
     {
         *self = ElemLines::new(bound, n, name, choices, i, elem);
     }
 
     fn next(&mut self, fact: &mut Fact<'a>) -> bool
-        ensures { MatchBool result (self.old ≡ fact.new ∷ self.new) ((self.old ≡ []) × (self.new ≡ [])) }
+        ensures { MatchBool result (self.old ≡ fact.new ∷ self.new) ((self.old ≡ [])
+            × (self.new ≡ [])) }
     {
         if self.value.next(fact) {
             return true;
@@ -115,7 +118,8 @@ impl<'a> ElemLines<'a> {
 
 // An element that is a number or a string.
 fn item_rows<'a>(bound: &'a Bound, n: u32, at: At<'a>, item: Piece<'a>) -> Queue<'a>
-    ensures { result ≡ item_rows n (path_at bound.now.tree.nodes n) (at_pieces at.entry) (piece_of item.entry) }
+    ensures { result
+        ≡ item_rows n (path_at bound.now.tree.nodes n) (at_pieces at.entry) (piece_of item.entry) }
 {
     Queue::four(
         bound,
@@ -128,7 +132,8 @@ fn item_rows<'a>(bound: &'a Bound, n: u32, at: At<'a>, item: Piece<'a>) -> Queue
 
 // An element that is a node.
 fn node_rows<'a>(bound: &'a Bound, n: u32, at: At<'a>, node: usize) -> Queue<'a>
-    ensures { result ≡ node_rows n (path_at bound.now.tree.nodes n) (at_pieces at.entry) (id_at bound.now.tree.nodes node) }
+    ensures { result
+        ≡ node_rows n (path_at bound.now.tree.nodes n) (at_pieces at.entry) (id_at bound.now.tree.nodes node) }
 {
     Queue::four(
         bound,
@@ -141,7 +146,8 @@ fn node_rows<'a>(bound: &'a Bound, n: u32, at: At<'a>, node: usize) -> Queue<'a>
 
 // An entry that names no node.
 fn unspecified<'a>(bound: &'a Bound, n: u32, at: At<'a>) -> Queue<'a>
-    ensures { result ≡ plain n (path_at bound.now.tree.nodes n) (at_pieces at.entry ++ lit (codes "_EXISTS") ∷ []) (num 0 ∷ []) ∷ [] }
+    ensures { result
+        ≡ plain n (path_at bound.now.tree.nodes n) (at_pieces at.entry ++ lit (codes "_EXISTS") ∷ []) (num 0 ∷ []) ∷ [] }
 {
     let exists = number(n, at, Ending::Mark("_EXISTS"), 0);
     Queue::four(bound, Some(exists), None, None, None)
@@ -154,7 +160,8 @@ pub(crate) fn choice_rows<'a>(
     at: At<'a>,
     choice: Option<&'a (u32, Text)>,
 ) -> Queue<'a>
-    ensures { result ≡ option_map_or (choice_lines n (path_at bound.now.tree.nodes n) (at_pieces at.entry)) (option_map (λ c. c.now) choice.entry) [] }
+    ensures { result
+        ≡ option_map_or (choice_lines n (path_at bound.now.tree.nodes n) (at_pieces at.entry)) (option_map (λ c. c.now) choice.entry) [] }
 {
     match choice {
         Some(choice) => choice_lines(bound, n, at, choice),
@@ -164,7 +171,8 @@ pub(crate) fn choice_rows<'a>(
 
 // A choice.
 fn choice_lines<'a>(bound: &'a Bound, n: u32, at: At<'a>, choice: &'a (u32, Text)) -> Queue<'a>
-    ensures { result ≡ choice_lines n (path_at bound.now.tree.nodes n) (at_pieces at.entry) choice.now }
+    ensures { result
+        ≡ choice_lines n (path_at bound.now.tree.nodes n) (at_pieces at.entry) choice.now }
 {
     let form = choice.1.as_str().as_bytes();
     Queue::four(
@@ -212,7 +220,8 @@ impl<'a> ElemRows<'a> {
         choices: &'a [(u32, Text)],
         elems: Elems<'a>,
     ) -> ElemRows<'a>
-        ensures { result ≡ each (elem_lines bound.now.tree.nodes n (path_at bound.now.tree.nodes n) name.entry.text.now choices.now) 0 (elements_left elems.entry) }
+        ensures { result
+            ≡ each (elem_lines bound.now.tree.nodes n (path_at bound.now.tree.nodes n) name.entry.text.now choices.now) 0 (elements_left elems.entry) }
     {
         ElemRows {
             bound,
@@ -228,7 +237,8 @@ impl<'a> ElemRows<'a> {
 
     /// Puts the next definition into `fact`; false exactly where none is left.
     pub(crate) fn next(&mut self, fact: &mut Fact<'a>) -> bool
-        ensures { MatchBool result (self.old ≡ fact.new ∷ self.new) ((self.old ≡ []) × (self.new ≡ [])) }
+        ensures { MatchBool result (self.old ≡ fact.new ∷ self.new) ((self.old ≡ [])
+            × (self.new ≡ [])) }
     {
         let count = self.count;
         loop {

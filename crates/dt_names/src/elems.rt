@@ -95,7 +95,8 @@ pub(crate) fn elems_len(elems: Elems<'_>) -> usize
 
 /// The next element, and what is left behind it.
 pub(crate) fn next_elem<'a>(elems: Elems<'a>) -> Option<(Elem<'a>, Elems<'a>)>
-    ensures { MatchOption result (elements_left elems.entry ≡ []) (λ r. elements_left elems.entry ≡ element r.0 ∷ elements_left r.1) }
+    ensures { MatchOption result (elements_left elems.entry ≡ [])
+        (λ r. elements_left elems.entry ≡ element r.0 ∷ elements_left r.1) }
 {
     match elems {
         Elems::Nothing => None,

@@ -36,7 +36,10 @@ impl<'a> Model for Fact<'a> {
 
     ghost Value = { FactData };
 
-    ghost view = { λ f. record (fact_of f.bound.now.tree.nodes f.row) { heading = option_map (λ h. h.now) f.heading } };
+    ghost view = { λ f. record (fact_of f.bound.now.tree.nodes f.row) {
+      heading = option_map
+          (λ h. h.now) f.heading;
+    } };
 }
 
 impl<'a> Fact<'a> {
@@ -248,7 +251,8 @@ impl<'a> Queue<'a> {
         third: Option<Row<'a>>,
         fourth: Option<Row<'a>>,
     ) -> Queue<'a>
-        ensures { result ≡ waiting bound.now.tree.nodes (first.entry ∷ second.entry ∷ third.entry ∷ fourth.entry ∷ []) }
+        ensures { result
+            ≡ waiting bound.now.tree.nodes (first.entry ∷ second.entry ∷ third.entry ∷ fourth.entry ∷ []) }
     {
         Queue {
             bound,
@@ -261,7 +265,8 @@ impl<'a> Queue<'a> {
 
     /// Puts the next definition into `fact`; false exactly where none is left.
     pub(crate) fn next(&mut self, fact: &mut Fact<'a>) -> bool
-        ensures { MatchBool result (self.old ≡ fact.new ∷ self.new) ((self.old ≡ []) × (self.new ≡ [])) }
+        ensures { MatchBool result (self.old ≡ fact.new ∷ self.new) ((self.old ≡ [])
+            × (self.new ≡ [])) }
     {
         let bound = self.bound;
         if let Some(row) = self.first {
@@ -314,7 +319,8 @@ impl<'a> Single<'a> {
 
     /// Puts the definition into `fact`; false exactly where none is left.
     pub(crate) fn next(&mut self, fact: &mut Fact<'a>) -> bool
-        ensures { MatchBool result (self.old ≡ fact.new ∷ self.new) ((self.old ≡ []) × (self.new ≡ [])) }
+        ensures { MatchBool result (self.old ≡ fact.new ∷ self.new) ((self.old ≡ [])
+            × (self.new ≡ [])) }
     {
         let Some(row) = self.row else {
             return false;

@@ -47,7 +47,8 @@ impl<'a> PlaceRows<'a> {
     }
 
     fn next(&mut self, fact: &mut Fact<'a>) -> bool
-        ensures { MatchBool result (self.old ≡ fact.new ∷ self.new) ((self.old ≡ []) × (self.new ≡ [])) }
+        ensures { MatchBool result (self.old ≡ fact.new ∷ self.new) ((self.old ≡ [])
+            × (self.new ≡ [])) }
     {
         let count = self.all.len();
         let Some((id, rest)) = self.rest.split_first() else {
@@ -103,7 +104,8 @@ impl<'a> InstRows<'a> {
 
     /// Puts the next definition into `fact`; false exactly where none is left.
     pub(crate) fn next(&mut self, fact: &mut Fact<'a>) -> bool
-        ensures { MatchBool result (self.old ≡ fact.new ∷ self.new) ((self.old ≡ []) × (self.new ≡ [])) }
+        ensures { MatchBool result (self.old ≡ fact.new ∷ self.new) ((self.old ≡ [])
+            × (self.new ≡ [])) }
     {
         loop {
             if let Some(places) = &mut self.places {
@@ -152,7 +154,8 @@ impl<'a> OkayRows<'a> {
     }
 
     fn next(&mut self, fact: &mut Fact<'a>) -> bool
-        ensures { MatchBool result (self.old ≡ fact.new ∷ self.new) ((self.old ≡ []) × (self.new ≡ [])) }
+        ensures { MatchBool result (self.old ≡ fact.new ∷ self.new) ((self.old ≡ [])
+            × (self.new ≡ [])) }
     {
         if self.counts.next(fact) {
             return true;
@@ -161,18 +164,20 @@ impl<'a> OkayRows<'a> {
     }
 }
 
-// Puts the definitions of the okay instances of a compatible string in the place of others. Apart from
-// `next`, which needn't hold room for them.
+// Puts the definitions of the okay instances of a compatible string in the place of others. Apart
+// from `next`, which needn't hold room for them.
 #[inline(never)]
 fn begin_okay<'a>(rows: &mut OkayRows<'a>, bound: &'a Bound, inst: &'a Inst)
-    ensures { rows.new ≡ (if nat_lt 0 inst.now.okay then okay_facts bound.now.tree.nodes (unwrap_or (slice_get inst.now.nodes 0) 0) inst.now else []) }
+    ensures { rows.new
+        ≡ (if nat_lt 0 inst.now.okay then okay_facts bound.now.tree.nodes (unwrap_or (slice_get inst.now.nodes 0) 0) inst.now else []) }
 {
     *rows = okay_rows(bound, inst);
 }
 
 // The definitions of the okay instances, where there are some.
 fn okay_rows<'a>(bound: &'a Bound, inst: &'a Inst) -> OkayRows<'a>
-    ensures { result ≡ (if nat_lt 0 inst.now.okay then okay_facts bound.now.tree.nodes (unwrap_or (slice_get inst.now.nodes 0) 0) inst.now else []) }
+    ensures { result
+        ≡ (if nat_lt 0 inst.now.okay then okay_facts bound.now.tree.nodes (unwrap_or (slice_get inst.now.nodes 0) 0) inst.now else []) }
 {
     if inst.okay == 0 {
         return OkayRows::none(bound);

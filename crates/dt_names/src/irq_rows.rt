@@ -52,7 +52,8 @@ impl<'a> IrqRows<'a> {
     }
 
     fn next(&mut self, fact: &mut Fact<'a>) -> bool
-        ensures { MatchBool result (self.old ≡ fact.new ∷ self.new) ((self.old ≡ []) × (self.new ≡ [])) }
+        ensures { MatchBool result (self.old ≡ fact.new ∷ self.new) ((self.old ≡ [])
+            × (self.new ≡ [])) }
     {
         if self.entry.next(fact) {
             return true;
@@ -70,8 +71,8 @@ impl<'a> IrqRows<'a> {
     }
 }
 
-// Puts the definitions on an interrupt in the place of others. Apart from `next`, which needn't hold room
-// for them.
+// Puts the definitions on an interrupt in the place of others. Apart from `next`, which needn't
+// hold room for them.
 #[inline(never)]
 fn begin_irq<'a>(rows: &mut EntryRows<'a>, bound: &'a Bound, n: u32, i: usize, irq: &'a Irq)
     ensures { rows.new ≡ irq_facts n (path_at bound.now.tree.nodes n) i irq.now }
@@ -110,7 +111,8 @@ impl<'a> RangeIrqRows<'a> {
     }
 
     fn next(&mut self, fact: &mut Fact<'a>) -> bool
-        ensures { MatchBool result (self.old ≡ fact.new ∷ self.new) ((self.old ≡ []) × (self.new ≡ [])) }
+        ensures { MatchBool result (self.old ≡ fact.new ∷ self.new) ((self.old ≡ [])
+            × (self.new ≡ [])) }
     {
         if self.range_count.next(fact) {
             return true;
@@ -157,7 +159,8 @@ impl<'a> ResourceRows<'a> {
 
     /// Puts the next definition into `fact`; false exactly where none is left.
     pub(crate) fn next(&mut self, fact: &mut Fact<'a>) -> bool
-        ensures { MatchBool result (self.old ≡ fact.new ∷ self.new) ((self.old ≡ []) × (self.new ≡ [])) }
+        ensures { MatchBool result (self.old ≡ fact.new ∷ self.new) ((self.old ≡ [])
+            × (self.new ≡ [])) }
     {
         if self.reg_count.next(fact) {
             return true;
@@ -171,7 +174,8 @@ impl<'a> ResourceRows<'a> {
 
 // How many there are.
 fn count_row<'a>(bound: &'a Bound, n: u32, mark: &'static str, count: usize) -> Single<'a>
-    ensures { result ≡ plain n (path_at bound.now.tree.nodes n) (lit mark.now ∷ []) (num count ∷ []) ∷ [] }
+    ensures { result
+        ≡ plain n (path_at bound.now.tree.nodes n) (lit mark.now ∷ []) (num count ∷ []) ∷ [] }
 {
     Single::new(
         bound,

@@ -48,7 +48,8 @@ impl<'a> HeadRows<'a> {
     }
 
     fn next(&mut self, fact: &mut Fact<'a>) -> bool
-        ensures { MatchBool result (self.old ≡ fact.new ∷ self.new) ((self.old ≡ []) × (self.new ≡ [])) }
+        ensures { MatchBool result (self.old ≡ fact.new ∷ self.new) ((self.old ≡ [])
+            × (self.new ≡ [])) }
     {
         if self.path.next(fact) {
             return true;
@@ -103,7 +104,8 @@ impl<'a> TitledHead<'a> {
 
     /// Puts the next definition into `fact`; false exactly where none is left.
     pub(crate) fn next(&mut self, fact: &mut Fact<'a>) -> bool
-        ensures { MatchBool result (self.old ≡ fact.new ∷ self.new) ((self.old ≡ []) × (self.new ≡ [])) }
+        ensures { MatchBool result (self.old ≡ fact.new ∷ self.new) ((self.old ≡ [])
+            × (self.new ≡ [])) }
     {
         if !self.rows.next(fact) {
             return false;
@@ -152,7 +154,8 @@ impl<'a> TitledNode<'a> {
 
     /// Puts the next definition into `fact`; false exactly where none is left.
     pub(crate) fn next(&mut self, fact: &mut Fact<'a>) -> bool
-        ensures { MatchBool result (self.old ≡ fact.new ∷ self.new) ((self.old ≡ []) × (self.new ≡ [])) }
+        ensures { MatchBool result (self.old ≡ fact.new ∷ self.new) ((self.old ≡ [])
+            × (self.new ≡ [])) }
     {
         if self.head.next(fact) {
             return true;

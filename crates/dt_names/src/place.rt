@@ -27,7 +27,8 @@ impl Places {
 
     /// The first place, and those behind it.
     pub(crate) fn split_first(self) -> Option<(usize, Places)>
-        ensures { MatchOption result (places_in self ≡ []) (λ r. places_in self ≡ r.0 ∷ places_in r.1) }
+        ensures { MatchOption result (places_in self ≡ [])
+            (λ r. places_in self ≡ r.0 ∷ places_in r.1) }
     {
         if self.next == self.end {
             return None;

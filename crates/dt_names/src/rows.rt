@@ -70,7 +70,8 @@ pub(crate) fn walks<'a>(
     mark: &'static str,
     things: Things<'a>,
 ) -> Queue<'a>
-    ensures { result ≡ walks owner (path_at bound.now.tree.nodes owner) (at_pieces at.entry ++ lit mark.now ∷ []) (things_at bound.now.tree.nodes owner things.entry) }
+    ensures { result
+        ≡ walks owner (path_at bound.now.tree.nodes owner) (at_pieces at.entry ++ lit mark.now ∷ []) (things_at bound.now.tree.nodes owner things.entry) }
 {
     let body = Body::Visits(things);
     Queue::four(
@@ -111,7 +112,8 @@ pub(crate) fn tree_row<'a>(
 
 /// The definition of a word's node.
 pub(crate) fn link<'a>(mark: &'static str, word: &'a [u8], node: u32) -> Row<'a>
-    ensures { (nodes : List NodeData) → fact_of nodes result ≡ link nodes mark.now (word.now, node) }
+    ensures { (nodes : List NodeData) → fact_of nodes result
+        ≡ link nodes mark.now (word.now, node) }
 {
     tree_row(
         node,

@@ -50,7 +50,8 @@ pub(crate) fn all_sections(bound: &Bound) -> Sections<'_>
 
 /// The next section, and what is left then; None exactly after the last.
 pub(crate) fn next_section<'a>(left: Sections<'a>) -> Option<(Section<'a>, Sections<'a>)>
-    ensures { MatchOption result (sections_left left.entry ≡ []) (λ r. IsNext left.entry r.0.of r.0.rows r.1) }
+    ensures { MatchOption result (sections_left left.entry ≡ [])
+        (λ r. IsNext left.entry r.0.of r.0.rows r.1) }
 {
     if let Some((prop, node)) = split_props(left.node) {
         return Some(next_prop(left, prop, node));
@@ -135,7 +136,8 @@ fn last_section<'a>(left: Sections<'a>) -> (Section<'a>, Sections<'a>)
 #[tactic(auto, using(crate::proofs::Based::prop_based, crate::proofs::OfProp::props_of_prop))]
 // The definitions on a property.
 fn on_prop<'a>(bound: &'a Bound, n: u32, prop: &'a Prop) -> Section<'a>
-    ensures rows { result.rows ≡ prop_facts bound.now.tree.nodes n (path_at bound.now.tree.nodes n) prop.now }
+    ensures rows { result.rows
+        ≡ prop_facts bound.now.tree.nodes n (path_at bound.now.tree.nodes n) prop.now }
     ensures base { (before : List PieceData) → base_in before result.of ≡ before }
     ensures based { AreBased (id_at bound.now.tree.nodes n) result.rows }
     ensures own { SpeakOf result.of result.rows }
@@ -155,7 +157,8 @@ fn on_prop<'a>(bound: &'a Bound, n: u32, prop: &'a Prop) -> Section<'a>
 fn before_props<'a>(bound: &'a Bound, n: u32, node: &'a NodeRec) -> Section<'a>
     requires { path_at bound.now.tree.nodes n ≡ node.now.path }
     ensures rows { result.rows ≡ head_section bound.now n node.now }
-    ensures base { (before : List PieceData) → base_in before result.of ≡ id_at bound.now.tree.nodes n }
+    ensures base { (before : List PieceData) → base_in before result.of
+        ≡ id_at bound.now.tree.nodes n }
     ensures based { AreBased (id_at bound.now.tree.nodes n) result.rows }
     ensures own { SpeakOf result.of result.rows }
     ensures going { GoOn result.rows }

@@ -1,4 +1,5 @@
--- Expressions: their trees, what they spell, and what they are worth. What is spelled stands behind the tokens before it, the last token first.
+-- Expressions: their trees, what they spell, and what they are worth. What is spelled stands behind the tokens before
+-- it, the last token first.
 use Rattle.std.specs.Prelude.{◌≤◌, ◌<◌, ℕ, zero, suc, Bool, true, false, List, ◌∷◌, Option, Some, None, nat_le, option_map, if◌then◌else◌}
 use Rattle.dts_parse.specs.Token.{Token, Spot, token, un_sign, bin_sign, op_level}
 use Rattle.dts_parse.specs.Worth.{un, bin, cond}

@@ -127,15 +127,18 @@ pub data Front (base : Bool) : Type 0 where
   In_body : (ps : Pieces) → AreFit base ps → (lead : Lead) → fits_lead (place base ps) lead ≡ true → Front base
   At_name : (ps : Pieces) → AreFit base ps → (lead : Lead) → fits_lead (place base ps) lead ≡ true
       → (f : Form) → Name f → may_name (place base ps) (is_empty (marks_of lead)) f ≡ true → Front base
-  At_brace : (ps : Pieces) → AreFit base ps → (lead : Lead) → takes_top (place base ps) ≡ true → is_empty (marks_of lead) ≡ true → Opening → Front base
+  At_brace : (ps : Pieces) → AreFit base ps → (lead : Lead) → takes_top (place base ps) ≡ true
+      → is_empty (marks_of lead) ≡ true → Opening → Front base
   At_directive : (ps : Pieces) → AreFit base ps → (b : Begun) → takes_begun (place base ps) b ≡ true → Front base
   At_end : (ps : Pieces) → AreFit base ps → (s : Short) → takes_short (place base ps) s ≡ true → Front base
   At_site : Site base → Front base
   At_colon : Site base → Name form.Label → Front base
   At_bits : Beginning base → Before → Labels → (directive : Spot) → Front base
-  At_angle : Beginning base → Before → Labels → (directive : Spot) → (n : ℕ) (w : Width) → width_of n ≡ Some w → (number : Spot) → Front base
+  At_angle : Beginning base → Before → Labels → (directive : Spot) → (n : ℕ) (w : Width) → width_of n ≡ Some w
+      → (number : Spot) → Front base
   Before_operand : (w : Width) → Listed base w → (begin : Spot) → (x : Waiting) → AreProper x → Front base
-  After_operand : (w : Width) → Listed base w → (begin : Spot) → (x : Waiting) → AreProper x → (e : Tree) → IsProper e → level e ≤ room x → Front base
+  After_operand : (w : Width) → Listed base w → (begin : Spot) → (x : Waiting) → AreProper x → (e : Tree) → IsProper e
+      → level e ≤ room x → Front base
 
 abbrev pub spell_front : {base : Bool} → Front base → List Token
 spell_front (In_body ps fit lead may) = spell_lead lead (spell_pieces ps)

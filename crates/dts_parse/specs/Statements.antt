@@ -47,7 +47,8 @@ omits (at ∷ marks) name = stmt at (Omit (target.Child name)) ∷ omits marks n
 
 -- ---- places between statements
 
--- which statements stood at the top; the open nodes, innermost first, each with what follows its end; and how many they are
+-- which statements stood at the top; the open nodes, innermost first, each with what follows its end; and how many they
+-- are
 pub record Place : Type 0 where
   pub stage : Stage
   pub opened : List (List StmtData)
@@ -168,7 +169,8 @@ pub data Pieces : Type 0 where
   Open_ref : Pieces → Lead → (ref brace : Spot) → Pieces
   Open_child : Pieces → Lead → (f : Form) → Name f → (brace : Spot) → Pieces
   Flag_ : Pieces → Lead → (f : Form) → Name f → (semicolon : Spot) → Pieces
-  Assign_ : Pieces → Lead → (f : Form) → Name f → (equal : Spot) → Before → Labels → Written → Labels → (semicolon : Spot) → Pieces
+  Assign_ : Pieces → Lead → (f : Form) → Name f → (equal : Spot) → Before → Labels → Written → Labels
+      → (semicolon : Spot) → Pieces
 
 abbrev pub spell_pieces : Pieces → List Token
 spell_pieces Nothing_yet = []
@@ -194,10 +196,14 @@ place base (Assign_ ps lead f n equal b ls part after semicolon) = beyond (place
 abbrev pub AreFit : Bool → Pieces → Type 0
 AreFit base Nothing_yet = Unit {0}
 AreFit base (Short_ ps s semicolon) = AreFit base ps × (takes_short (place base ps) s ≡ true)
-AreFit base (Open_root ps lead slash brace) = AreFit base ps × (takes_top (place base ps) ≡ true) × (is_empty (marks_of lead) ≡ true)
-AreFit base (Open_ref ps lead ref brace) = AreFit base ps × (takes_top (place base ps) ≡ true) × (is_empty (marks_of lead) ≡ true)
-AreFit base (Open_child ps lead f n brace) = AreFit base ps × (takes_inner (place base ps) ≡ true) × (is_node_form f ≡ true)
-AreFit base (Flag_ ps lead f n semicolon) = AreFit base ps × (takes_inner (place base ps) ≡ true) × (is_empty (marks_of lead) ≡ true) × (is_prop_form f ≡ true)
+AreFit base (Open_root ps lead slash brace) = AreFit base ps × (takes_top (place base ps) ≡ true)
+    × (is_empty (marks_of lead) ≡ true)
+AreFit base (Open_ref ps lead ref brace) = AreFit base ps × (takes_top (place base ps) ≡ true)
+    × (is_empty (marks_of lead) ≡ true)
+AreFit base (Open_child ps lead f n brace) = AreFit base ps × (takes_inner (place base ps) ≡ true)
+    × (is_node_form f ≡ true)
+AreFit base (Flag_ ps lead f n semicolon) = AreFit base ps × (takes_inner (place base ps) ≡ true)
+    × (is_empty (marks_of lead) ≡ true) × (is_prop_form f ≡ true)
 AreFit base (Assign_ ps lead f n equal b ls part after semicolon) =
     AreFit base ps × (takes_inner (place base ps) ≡ true) × (is_empty (marks_of lead) ≡ true) × (is_prop_form f ≡ true)
 
@@ -205,11 +211,15 @@ AreFit base (Assign_ ps lead f n equal b ls part after semicolon) =
 abbrev pub script : Bool → Pieces → List StmtData
 script base Nothing_yet = []
 script base (Short_ ps s semicolon) = with_short (place base ps) s (script base ps)
-script base (Open_root ps lead slash brace) = (script base ps ++ stmt slash.at (Open target.Root) ∷ []) ++ labels_of lead
-script base (Open_ref ps lead ref brace) = (script base ps ++ stmt ref.at (Open (target_of ref.text)) ∷ []) ++ labels_of lead
-script base (Open_child ps lead f n brace) = (script base ps ++ stmt n.spot.at (Open (target.Child n.spot.text)) ∷ []) ++ labels_of lead
+script base (Open_root ps lead slash brace) = (script base ps ++ stmt slash.at (Open target.Root) ∷ [])
+    ++ labels_of lead
+script base (Open_ref ps lead ref brace) = (script base ps ++ stmt ref.at (Open (target_of ref.text)) ∷ [])
+    ++ labels_of lead
+script base (Open_child ps lead f n brace) = (script base ps ++ stmt n.spot.at (Open (target.Child n.spot.text)) ∷ [])
+    ++ labels_of lead
 script base (Flag_ ps lead f n semicolon) = script base ps ++ stmt n.spot.at (Assign n.spot.text []) ∷ []
-script base (Assign_ ps lead f n equal b ls part after semicolon) = script base ps ++ stmt n.spot.at (Assign n.spot.text (parts_of b ++ part_of part ∷ [])) ∷ []
+script base (Assign_ ps lead f n equal b ls part after semicolon) = script base ps
+    ++ stmt n.spot.at (Assign n.spot.text (parts_of b ++ part_of part ∷ [])) ∷ []
 
 -- a source ends where no node is open, and a base has begun
 abbrev pub ends : Place → Bool

@@ -125,8 +125,10 @@ spell_head (Bits_ directive n is number begin) before = token sign.Less begin �
 pub data Written : Type 0 where
   Text_ : Spot → Written
   Path_ : Spot → Written
-  List_ : (w : Width) → Head w → (es : Elements w) → (ls : Labels) → may_close (listing_of es ls) ≡ true → (finish : Spot) → Written
-  Hex_ : (begin : Spot) → (ps : Pairs) → (ls : Labels) → may_close (pair_listing ps ls) ≡ true → (finish : Spot) → Written
+  List_ : (w : Width) → Head w → (es : Elements w) → (ls : Labels) → may_close (listing_of es ls) ≡ true
+      → (finish : Spot) → Written
+  Hex_ : (begin : Spot) → (ps : Pairs) → (ls : Labels) → may_close (pair_listing ps ls) ≡ true → (finish : Spot)
+      → Written
 
 abbrev pub spell_written : Written → List Token → List Token
 spell_written (Text_ p) before = token sign.Str p ∷ before

@@ -3,9 +3,9 @@
 ghost use Rattle.std.specs.Prelude.{◌≡◌, ◌<◌, ◌∷◌, [], Ok, Some, None, true, false, suc, reverse};
 ghost use Rattle.dts_parse.specs.Exprs.{more};
 ghost use Rattle.dts_parse.specs.Fronts.{is_opening};
-ghost use Rattle.dts_parse.specs.Machine.{Climbed, before_operand, behind_operand, chosen, chosen_case, climbed, closed_case, closed_round, joined, operand_is, put, refused, tested, waits};
+ghost use Rattle.dts_parse.specs.Inner.Machine.{Climbed, before_operand, behind_operand, chosen, chosen_case, climbed, closed_case, closed_round, joined, operand_is, put, refused, tested, waits};
 ghost use Rattle.dts_parse.specs.Statements.{below};
-ghost use Rattle.dts_parse.specs.Shown.{Leaves, shown};
+ghost use Rattle.dts_parse.specs.Inner.Shown.{Leaves, shown};
 ghost use Rattle.dts_parse.specs.Token.{bin_of, op_level, un_of};
 ghost use Rattle.dts_parse.specs.declared.mode.Frame.TheVariants as frame;
 ghost use Rattle.dts_parse.specs.declared.mode.Mode.TheVariants as mode;

@@ -3,8 +3,8 @@
 ghost use Rattle.std.specs.Prelude.{◌≡◌, ◌<◌, ◌++◌, ◌∷◌, [], Ok, Some, None, OnOk, IfOk, IsTrue, true, false};
 ghost use Rattle.std.specs.List.{list_all};
 ghost use Rattle.dts_parse.specs.Fronts.{is_opening, may_name};
-ghost use Rattle.dts_parse.specs.Machine.{at_brace, at_child, at_close, at_deletion, at_end, at_flag, at_label, at_mark, at_opening, behind_name, complete, directive, in_body, is_bare, is_prop, named, place_now, refused};
-ghost use Rattle.dts_parse.specs.Shown.{Leaves, shown};
+ghost use Rattle.dts_parse.specs.Inner.Machine.{at_brace, at_child, at_close, at_deletion, at_end, at_flag, at_label, at_mark, at_opening, behind_name, complete, directive, in_body, is_bare, is_prop, named, place_now, refused};
+ghost use Rattle.dts_parse.specs.Inner.Shown.{Leaves, shown};
 ghost use Rattle.dts_parse.specs.Statements.{has_begun, is_early, is_empty, omits, takes_inner, takes_top, takes_version};
 ghost use Rattle.dts_parse.specs.StmtData.{Open, Close, Label, Assign, DelProp, DelNode, Omit, stmt};
 ghost use Rattle.dts_parse.specs.Texts.{target_of};
@@ -99,7 +99,8 @@ impl<'a> Parser<'a> {
     }
 
     fn may_name(&self, form: Form) -> bool
-        ensures { result ≡ may_name (place_now (shown self.now)) (is_empty (shown self.now).marks) form }
+        ensures { result
+            ≡ may_name (place_now (shown self.now)) (is_empty (shown self.now).marks) form }
     {
         (self.takes_inner() && (self.is_unmarked() || is_node_form(form)))
             || (self.takes_top() && is_label_form(form))

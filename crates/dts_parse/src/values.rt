@@ -3,8 +3,8 @@
 ghost use Rattle.std.specs.Prelude.{◌≡◌, ◌<◌, ◌%◌, ◌^◌, ◌++◌, ◌∷◌, [], Ok, Some, None, OnOk, suc, true, false};
 ghost use Rattle.dts_parse.specs.ActForm.{part_data};
 ghost use Rattle.dts_parse.specs.Fronts.{is_opening};
-ghost use Rattle.dts_parse.specs.Machine.{assigned, at_colon, at_ref, at_width, behind_bits, behind_part, behind_width, closed_list, closed_pairs, in_cells, in_pairs, in_value, labelled, more_labels, put, waits_colon, with_part};
-ghost use Rattle.dts_parse.specs.Shown.{Leaves, shown};
+ghost use Rattle.dts_parse.specs.Inner.Machine.{assigned, at_colon, at_ref, at_width, behind_bits, behind_part, behind_width, closed_list, closed_pairs, in_cells, in_pairs, in_value, labelled, more_labels, put, waits_colon, with_part};
+ghost use Rattle.dts_parse.specs.Inner.Shown.{Leaves, shown};
 ghost use Rattle.dts_parse.specs.StmtData.{Plain, Path};
 ghost use Rattle.dts_parse.specs.Texts.{element_bytes, fits, target_of, text_bytes, width_of};
 ghost use Rattle.dts_parse.specs.Values.{bytes_with, cells_with, list_data, may_close, misfits};

@@ -109,13 +109,15 @@ pub record KeepsPromises (r : Run) : Type 0 where
   pub answer : IsTrue (is_plain r.status) → (answer : Answer) × (IsAnswerIn r answer) × (r.status ≡ answer.status)
       × (Gains r.out_old r.out_new answer.text) × (Gains r.note_old r.note_new answer.line)
   -- whatever the status: the output is as it was, or gained a prefix of an answer's text
-  pub output : Gains r.out_old r.out_new [] ⊎ ((answer : Answer) × (IsAnswerIn r answer) × GainsPrefix r.out_old r.out_new answer.text)
+  pub output : Gains r.out_old r.out_new [] ⊎ ((answer : Answer) × (IsAnswerIn r answer)
+      × GainsPrefix r.out_old r.out_new answer.text)
   -- where the files tell what they hold and nothing failed, the run ends with its answer or with want of memory
   pub complete : OfAnswer r (λ answer. NothingRose r → (r.status ≡ answer.status) ⊎ (r.status ≡ status.Memory))
   -- where the files tell: whatever the status, the output gained a prefix of the answer's text
   pub prefix : OfAnswer r (λ answer. GainsPrefix r.out_old r.out_new answer.text)
   -- where the files tell: an output that is sure of room for the answer's text doesn't fail
-  pub sure : OfAnswer r (λ answer. length answer.text ≤ r.out_old.room → IsSure r.out_old r.out_new (length answer.text))
+  pub sure : OfAnswer r
+      (λ answer. length answer.text ≤ r.out_old.room → IsSure r.out_old r.out_new (length answer.text))
   -- status 2 comes only on words that are no job, and its line was gained
   pub usage : r.status ≡ status.Usage → (job_of r.words ≡ None) × Gains r.note_old r.note_new usage_line
   -- on such words nothing is read or written, whatever the status
@@ -137,7 +139,8 @@ pub record KeepsPromises (r : Run) : Type 0 where
   pub note : (said : Status) × (line : List ℕ) × (noted : Bool) × (HasCause r said line)
       × (Wrote r.note_old r.note_new line noted) × (r.status ≡ (if noted then said else status.Write))
   -- the files hold what they held, and no count of faults falls
-  pub kept : KeepsFiles r.files_old r.files_new × (r.out_old.faults ≤ r.out_new.faults) × (r.note_old.faults ≤ r.note_new.faults)
+  pub kept : KeepsFiles r.files_old r.files_new × (r.out_old.faults ≤ r.out_new.faults)
+      × (r.note_old.faults ≤ r.note_new.faults)
 
 -- over files that don't fail, with sure room for the answer's text and for the lines that can come, no
 -- premise on the sinks is left: the run ends with its answer or with want of memory

@@ -32,7 +32,8 @@ pub(crate) fn decide<F: Files>(
     job: &Job,
     files: &mut F,
 ) -> Result<Decision, AllocError>
-    ensures wanted { IfOk result (λ d. IsWanted (F.seen files.old) (F.seen files.new) (Some job.now) (wanted_of d)) }
+    ensures wanted { IfOk result
+        (λ d. IsWanted (F.seen files.old) (F.seen files.new) (Some job.now) (wanted_of d)) }
     ensures held { held_of (F.seen files.new) ≡ held_of (F.seen files.old) }
     ensures count { (F.seen files.old).faults ≤ (F.seen files.new).faults }
 {

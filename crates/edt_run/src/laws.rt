@@ -23,7 +23,8 @@ pub(crate) fn one_tree()
 /// A run has one answer: over the same words and what was read there is one status, one output and
 /// one line.
 pub(crate) fn one_answer()
-    ensures { (job : Option JobData) (given : Given) (a b : Answer) → IsAnswer job given a → IsAnswer job given b → a ≡ b }
+    ensures { (job : Option JobData) (given : Given) (a b : Answer) → IsAnswer job given a
+        → IsAnswer job given b → a ≡ b }
 {}
 
 /// A run over files that don't fail and sinks with sure room ends with its answer, or with want of

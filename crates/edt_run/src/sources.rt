@@ -45,7 +45,8 @@ pub(crate) fn read_sources<F: Files>(
     files: &mut F,
 ) -> Result<Vec<Bytes>, Stop>
     ensures read { IfOk result (λ v. AreRead (held_of (F.seen files.old)) names.now v.items) }
-    ensures stopped { IfErr result (λ stop. IsReadStop (F.seen files.old) (F.seen files.new) names.now stop) }
+    ensures stopped { IfErr result
+        (λ stop. IsReadStop (F.seen files.old) (F.seen files.new) names.now stop) }
     ensures held { held_of (F.seen files.new) ≡ held_of (F.seen files.old) }
     ensures count { (F.seen files.old).faults ≤ (F.seen files.new).faults }
 {

@@ -73,12 +73,13 @@ fn carry_out<F: Files, O: Sink, E: Sink>(
 }
 
 /// Does all that the program does: for the words `gen NAME` it reads the source of that name and
-/// writes the header of its nodes to `out`; `-` names standard input. `words` are the arguments after
-/// the program's name, `note` is where a refusal is told, in one line, and the status is how it ended.
+/// writes the header of its nodes to `out`; `-` names standard input. `words` are the arguments
+/// after the program's name, `note` is where a refusal is told, in one line, and the status is how
+/// it ended.
 ///
-/// The one clause is the promise of the whole program: when each status comes and why, what the output
-/// then gained, and what the note says (`KeepsPromises`, each sentence a field of its own). Want of
-/// memory is the one answer without a cause.
+/// The one clause is the promise of the whole program: when each status comes and why, what the
+/// output then gained, and what the note says (`KeepsPromises`, each sentence a field of its own).
+/// Want of memory is the one answer without a cause.
 pub fn run<F: Files, O: Sink, E: Sink>(
     alloc: Global,
     words: &Words,

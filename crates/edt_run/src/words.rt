@@ -26,8 +26,8 @@ impl Model for Row {
     ghost inverse = { λ r. record { least = r.least; most = r.most } };
 }
 
-/// What the words after the program's name ask for: a command, then names in order. None exactly where
-/// they are no job of the table of commands. The one error is want of memory.
+/// What the words after the program's name ask for: a command, then names in order. None exactly
+/// where they are no job of the table of commands. The one error is want of memory.
 pub fn job(alloc: Global, words: &Words) -> Result<Option<Job>, AllocError>
     ensures { IfOk result (λ j. j ≡ job_of words.now) }
 {

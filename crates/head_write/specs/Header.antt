@@ -1,4 +1,5 @@
--- The header's text: a line a definition, comments before the definitions of each node and of the tree, and no definition twice.
+-- The header's text: a line a definition, comments before the definitions of each node and of the tree, and no
+-- definition twice.
 use Rattle.std.specs.Prelude.{◌+◌, ◌==◌, ◌++◌, ℕ, Bool, false, List, [], ◌∷◌, Option, None, Some, codes, if◌then◌else◌}
 use Rattle.std.specs.List.{flat_map}
 use Rattle.edt_base.specs.BoundData.{BoundData}

@@ -38,7 +38,8 @@ fn entry_len(entry: &Entry<'_>) -> u64
 #[tactic(auto, unfolding(crate::specs::Header::heading_text))]
 // The length of the comment before a definition.
 fn heading_len(heading: Option<&[u8]>) -> u64
-    ensures { result ≡ min (length (heading_text (option_map (λ h. h.now) heading.entry))) (2 ^ 64 - 1) }
+    ensures { result
+        ≡ min (length (heading_text (option_map (λ h. h.now) heading.entry))) (2 ^ 64 - 1) }
 {
     match heading {
         Some(title) => (title.len() as u64).saturating_add(7),

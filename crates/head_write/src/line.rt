@@ -3,7 +3,7 @@
 ghost use Rattle.std.specs.Prelude.{◌≡◌, is_ok, option_map};
 ghost use Rattle.dt_names.specs.Pieces.{spells};
 ghost use Rattle.head_write.specs.Header.{body_text, entry_text, heading_text, line, params_text};
-ghost use Rattle.head_write.specs.Put.{Put};
+ghost use Rattle.head_write.specs.Inner.Put.{Put};
 
 use crate::block::{Block, put};
 use crate::entry::Entry;

@@ -5,7 +5,7 @@ ghost use Rattle.std.specs.List.{flat_map};
 ghost use Rattle.edt_base.specs.Forms.{form_byte, form_char, form_of};
 ghost use Rattle.dt_names.specs.Pieces.{escaped, quoted, spell, spells};
 ghost use Rattle.dt_names.specs.Words.{piece_of};
-ghost use Rattle.head_write.specs.Put.{Put};
+ghost use Rattle.head_write.specs.Inner.Put.{Put};
 
 use crate::block::{Block, put, put_byte};
 use arrayvec::ArrayVec;

@@ -6,7 +6,7 @@ use Rattle.dts_parse.specs.Fronts.{is_opening, may_name}
 use Rattle.dts_parse.specs.Statements.{Place, below, first_stage, head, is_empty, omits, tail, takes_inner, takes_top, takes_version}
 use Rattle.dts_parse.specs.StmtData.{PartData, StmtData, Plain, Path, Open, Close, Label, Assign, DelProp, DelNode, Omit, stmt}
 use Rattle.dts_parse.specs.Texts.{target_of, text_bytes, width_of}
-use Rattle.dts_parse.specs.Token.{Spot, Token, bin_of, is_node_form, is_prop_form, op_level, un_of}
+use Rattle.dts_parse.specs.Token.{Spot, Token, bin_of, is_include, is_node_form, is_prop_form, op_level, un_of}
 use Rattle.dts_parse.specs.Values.{bytes_with, cells_with, list_data, may_close, misfits}
 use Rattle.dts_parse.specs.Worth.{bin, cond, un}
 use Rattle.dts_parse.specs.declared.expr.BinOp.{BinOp}
@@ -134,7 +134,12 @@ abbrev pub is_prop : Shape → Form → Bool
 is_prop s f = takes_inner (place_now s) && is_empty s.marks && is_prop_form f
 
 abbrev pub at_label : Form → Shape → Spot → Spot → Step
-at_label form.Label s p n = Ok (record s { mode = mode.Body; name = None; labels = s.labels ++ stmt n.at (Label n.text) ∷ [] })
+at_label form.Label s p n = Ok (record s {
+  mode = mode.Body;
+  name = None;
+  labels = s.labels
+      ++ stmt n.at (Label n.text) ∷ [];
+})
 at_label _ s p n = refused p
 
 abbrev pub at_flag : Form → Shape → Spot → Spot → Step
@@ -160,7 +165,8 @@ at_child f s p n =
 abbrev pub behind_name : Form → Shape → Spot → Spot → Sign → Step
 behind_name f s p n sign.Colon = at_label f s p n
 behind_name f s p n sign.Semicolon = at_flag f s p n
-behind_name f s p n sign.Equal = if is_prop s f then Ok (record s { mode = mode.Value; labels = []; marks = [] }) else refused p
+behind_name f s p n sign.Equal = if is_prop s f then Ok (record s { mode = mode.Value; labels = []; marks = [] })
+    else refused p
 behind_name f s p n sign.LeftBrace = at_child f s p n
 behind_name f s p n _ = refused p
 
@@ -186,8 +192,10 @@ directive wanted.SecondNumber s p (sign.Number n) = complete s s.out
 directive wanted.SecondNumber s p sign.Huge = complete s s.out
 directive wanted.DeletedRef s p sign.Ref = complete s (s.out ++ stmt p.at (DelNode (target_of p.text)) ∷ [])
 directive wanted.OmittedRef s p sign.Ref = complete s (s.out ++ stmt p.at (Omit (target_of p.text)) ∷ [])
-directive wanted.DeletedChild s p (sign.Name f) = if is_node_form f then complete s (s.out ++ stmt s.begin (DelNode (target.Child p.text)) ∷ []) else refused p
-directive wanted.DeletedProp s p (sign.Name f) = if is_prop_form f then complete s (s.out ++ stmt s.begin (DelProp p.text) ∷ []) else refused p
+directive wanted.DeletedChild s p (sign.Name f) = if is_node_form f then complete s (s.out
+    ++ stmt s.begin (DelNode (target.Child p.text)) ∷ []) else refused p
+directive wanted.DeletedProp s p (sign.Name f) = if is_prop_form f then complete s (s.out
+    ++ stmt s.begin (DelProp p.text) ∷ []) else refused p
 directive _ s p _ = refused p
 
 -- ---- values
@@ -211,7 +219,14 @@ in_value s p _ = refused p
 abbrev pub assigned : Shape → Spot → Step
 assigned s p = elim s.name [
   | None ↦ refused p
-  | Some n ↦ Ok (record s { mode = mode.Body; stage = stage.Rest; name = None; parts = []; out = s.out ++ stmt n.at (Assign n.text s.parts) ∷ [] })
+  | Some n ↦ Ok (record s {
+    mode = mode.Body;
+    stage = stage.Rest;
+    name = None;
+    parts = [];
+    out = s.out
+        ++ stmt n.at (Assign n.text s.parts) ∷ [];
+  })
 ]
 
 abbrev pub behind_part : Shape → Spot → Sign → Step
@@ -239,12 +254,23 @@ put w huge n at s =
     else Ok (record s { mode = mode.Cells w listing.Elements; cells = cells_with w n s.cells; bytes = bytes_with w n s.bytes })
 
 abbrev pub at_ref : Width → Shape → Spot → Step
-at_ref Bits32 s p = Ok (record s { mode = mode.Cells Bits32 listing.Elements; cells = s.cells ++ cell.Ref (target_of p.text) ∷ [] })
+at_ref Bits32 s p = Ok (record s {
+  mode = mode.Cells Bits32 listing.Elements;
+  cells = s.cells
+      ++ cell.Ref (target_of p.text) ∷ [];
+})
 at_ref _ s p = refused p
 
 abbrev pub closed_list : Width → Listing → Shape → Spot → Step
 closed_list w l s p =
-    if may_close l then Ok (record s { mode = mode.Part; depth = below s.depth; parts = s.parts ++ list_data w s.cells s.bytes ∷ []; cells = []; bytes = [] })
+    if may_close l then Ok (record s {
+      mode = mode.Part;
+      depth = below s.depth;
+      parts = s.parts
+          ++ list_data w s.cells s.bytes ∷ [];
+      cells = [];
+      bytes = [];
+    })
     else refused p
 
 abbrev pub in_cells : Width → Listing → Shape → Spot → Sign → Step
@@ -259,7 +285,13 @@ in_cells w l s p _ = refused p
 
 abbrev pub closed_pairs : Listing → Shape → Spot → Step
 closed_pairs l s p =
-    if may_close l then Ok (record s { mode = mode.Part; depth = below s.depth; parts = s.parts ++ Plain (record { kind = kind.Hex; bytes = s.bytes }) ∷ []; bytes = [] })
+    if may_close l then Ok (record s {
+      mode = mode.Part;
+      depth = below s.depth;
+      parts = s.parts
+          ++ Plain (record { kind = kind.Hex; bytes = s.bytes }) ∷ [];
+      bytes = [];
+    })
     else refused p
 
 abbrev pub in_pairs : Listing → Shape → Spot → Sign → Step
@@ -373,10 +405,6 @@ limited_by _ p f = stop S2 p
 abbrev pub limited : Spot → Step → Step
 limited p (Ok s) = stop S2 p
 limited p (Err f) = limited_by f.rule p f
-
-abbrev pub is_include : Sign → Bool
-is_include sign.Include = true
-is_include _ = false
 
 -- what stands at one byte in place of all else comes first
 abbrev pub step : Shape → Token → Step
