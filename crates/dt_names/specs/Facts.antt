@@ -110,11 +110,13 @@ visits ps (t ∷ ts) = visit ps t ++ flat_map (λ u. lit (between ps) ∷ visit 
 
 -- a definition of the tree, which belongs to a node
 abbrev pub fact : ℕ → List PieceData → Params → List PieceData → FactData
-fact owner name ps body = record { owner = owner; heading = None; goes_on = false; base = []; rest = name; params = ps; body = body }
+fact owner name ps body =
+    record { owner = owner; heading = None; goes_on = false; base = []; rest = name; params = ps; body = body }
 
 -- a definition of the node n of a path: the id, and what follows it
 abbrev pub of_node : ℕ → List ℕ → List PieceData → Params → List PieceData → FactData
-of_node n path after ps body = record { owner = n; heading = None; goes_on = false; base = id_pieces path; rest = after; params = ps; body = body }
+of_node n path after ps body =
+    record { owner = n; heading = None; goes_on = false; base = id_pieces path; rest = after; params = ps; body = body }
 
 -- one without parameters
 abbrev pub plain : ℕ → List ℕ → List PieceData → List PieceData → FactData
@@ -231,7 +233,9 @@ is_compound _ = false
 
 -- the property makes definitions
 abbrev pub is_shown : PropData → Bool
-is_shown p = not (starts_with nat_eq p.name (codes "#")) && not (ends_with nat_eq p.name (codes "-map")) && not (is_compound p.ty)
+is_shown p =
+    not (starts_with nat_eq p.name (codes "#")) && not (ends_with nat_eq p.name (codes "-map")) && not
+    (is_compound p.ty)
 
 abbrev pub of_prop : List ℕ → List PieceData → List PieceData
 of_prop name after = lit (codes "_P_") ∷ form name ∷ after
@@ -352,7 +356,8 @@ elem_visit path name i = id_pieces path ++ lit (codes ", ") ∷ form name ∷ li
 abbrev pub count_facts : ℕ → List ℕ → List ℕ → ℕ → List FactData
 count_facts n path name count =
     plain n path (of_prop name (lit (codes "_LEN") ∷ [])) (num count ∷ [])
-    ∷ walks n path (of_prop name (lit (codes "_FOREACH_PROP_ELEM") ∷ [])) (map (elem_visit path name) (range_with_len 0 count))
+    ∷ walks n path (of_prop name (lit (codes "_FOREACH_PROP_ELEM") ∷ []))
+    (map (elem_visit path name) (range_with_len 0 count))
 
 -- how many elements are counted
 abbrev pub counted : PropData → Option ℕ
@@ -398,15 +403,19 @@ chosen_facts nodes (word, id) =
 
 -- an instance by its number
 abbrev pub place_fact : List NodeData → List ℕ → ℕ → ℕ → List FactData
-place_fact nodes compat i id = fact id (lit (codes "DT_N_INST_") ∷ num i ∷ lit (codes "_") ∷ form compat ∷ []) params.Plain (id_at nodes id) ∷ []
+place_fact nodes compat i id =
+    fact id (lit (codes "DT_N_INST_") ∷ num i ∷ lit (codes "_") ∷ form compat ∷ []) params.Plain (id_at nodes id) ∷ []
 
 -- the okay instances of a compatible string, which come first
 abbrev pub okay_facts : List NodeData → ℕ → InstData → List FactData
 okay_facts nodes first i =
     fact first (lit (codes "DT_COMPAT_HAS_OKAY_") ∷ form i.compat ∷ []) params.Plain yes
-    ∷ fact first (lit (codes "DT_N_INST_") ∷ form i.compat ∷ lit (codes "_NUM_OKAY") ∷ []) params.Plain (num i.okay ∷ [])
-    ∷ fact first (lit (codes "DT_FOREACH_OKAY_") ∷ form i.compat ∷ []) params.Fn (visits params.Fn (map (id_at nodes) (take i.okay i.nodes)))
-    ∷ fact first (lit (codes "DT_FOREACH_OKAY_VARGS_") ∷ form i.compat ∷ []) params.FnVargs (visits params.FnVargs (map (id_at nodes) (take i.okay i.nodes)))
+    ∷ fact first (lit (codes "DT_N_INST_") ∷ form i.compat ∷ lit (codes "_NUM_OKAY") ∷ []) params.Plain
+    (num i.okay ∷ [])
+    ∷ fact first (lit (codes "DT_FOREACH_OKAY_") ∷ form i.compat ∷ []) params.Fn
+    (visits params.Fn (map (id_at nodes) (take i.okay i.nodes)))
+    ∷ fact first (lit (codes "DT_FOREACH_OKAY_VARGS_") ∷ form i.compat ∷ []) params.FnVargs
+    (visits params.FnVargs (map (id_at nodes) (take i.okay i.nodes)))
     ∷ fact first (lit (codes "DT_FOREACH_OKAY_INST_") ∷ form i.compat ∷ []) params.Fn (visits params.Fn (map
     (λ k. num k ∷ []) (range_with_len 0 i.okay)))
     ∷ []
@@ -419,8 +428,10 @@ inst_facts nodes i =
 -- walks over all nodes
 abbrev pub helper_facts : List NodeData → List FactData
 helper_facts nodes =
-    fact 0 (lit (codes "DT_FOREACH_HELPER") ∷ []) params.Fn (visits params.Fn (map (id_at nodes) (range_with_len 0 (length nodes))))
-    ∷ fact 0 (lit (codes "DT_FOREACH_OKAY_HELPER") ∷ []) params.Fn (visits params.Fn (map (id_at nodes) (okay_of nodes (range_with_len 0 (length nodes)))))
+    fact 0 (lit (codes "DT_FOREACH_HELPER") ∷ []) params.Fn
+    (visits params.Fn (map (id_at nodes) (range_with_len 0 (length nodes))))
+    ∷ fact 0 (lit (codes "DT_FOREACH_OKAY_HELPER") ∷ []) params.Fn
+    (visits params.Fn (map (id_at nodes) (okay_of nodes (range_with_len 0 (length nodes)))))
     ∷ []
 
 abbrev pub tree_facts : BoundData → List FactData

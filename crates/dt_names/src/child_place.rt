@@ -4,8 +4,8 @@ ghost use Rattle.std.specs.Prelude.{◌≡◌, [], MatchOption, drop, length, na
 ghost use Rattle.std.specs.List.{filter};
 ghost use Rattle.edt_base.specs.TreeData.{IsWellFormed};
 ghost use Rattle.dt_names.specs.Facts.{child_place};
-ghost use Rattle.dt_names.specs.Standing.{StandsAt};
-ghost use Rattle.dt_names.specs.Rising.{IsRisingFrom};
+ghost use Rattle.dt_names.specs.Inner.Standing.{StandsAt};
+ghost use Rattle.dt_names.specs.Inner.Rising.{IsRisingFrom};
 
 use edt_base::{Bound, NodeId, NodeRec};
 

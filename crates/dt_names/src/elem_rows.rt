@@ -3,11 +3,11 @@
 ghost use Rattle.std.specs.Prelude.{◌≡◌, ◌∷◌, ◌++◌, [], codes, option_map, MatchBool};
 ghost use Rattle.std.specs.Option.{option_map_or};
 ghost use Rattle.edt_base.specs.Nodes.{path_at};
-ghost use Rattle.dt_names.specs.Elems.{element, elements_left};
+ghost use Rattle.dt_names.specs.Inner.Elems.{element, elements_left};
 ghost use Rattle.dt_names.specs.Facts.{choice_lines, each, elem_lines, id_at, item_rows, node_rows, plain};
 ghost use Rattle.dt_names.specs.Pieces.{lit, num};
-ghost use Rattle.dt_names.specs.Rows.{at_pieces};
-ghost use Rattle.dt_names.specs.Words.{piece_of};
+ghost use Rattle.dt_names.specs.Inner.Rows.{at_pieces};
+ghost use Rattle.dt_names.specs.Inner.Words.{piece_of};
 
 use crate::cell_rows::EntryRows;
 use crate::elems::{Elem, Elems, elems_len, next_elem};
@@ -57,7 +57,8 @@ impl<'a> ElemLines<'a> {
         elem: Elem<'a>,
     ) -> ElemLines<'a>
         ensures { result
-            ≡ elem_lines bound.now.tree.nodes n (path_at bound.now.tree.nodes n) name.entry.text.now choices.now i (element elem.entry) }
+            ≡ elem_lines bound.now.tree.nodes n (path_at bound.now.tree.nodes n)
+            name.entry.text.now choices.now i (element elem.entry) }
     {
         let at = At::Elem(name, i);
         match elem {
@@ -97,7 +98,8 @@ impl<'a> ElemLines<'a> {
         elem: Elem<'a>,
     )
         ensures { self.new
-            ≡ elem_lines bound.now.tree.nodes n (path_at bound.now.tree.nodes n) name.entry.text.now choices.now i (element elem.entry) }
+            ≡ elem_lines bound.now.tree.nodes n (path_at bound.now.tree.nodes n)
+            name.entry.text.now choices.now i (element elem.entry) }
     {
         *self = ElemLines::new(bound, n, name, choices, i, elem);
     }
@@ -133,7 +135,8 @@ fn item_rows<'a>(bound: &'a Bound, n: u32, at: At<'a>, item: Piece<'a>) -> Queue
 // An element that is a node.
 fn node_rows<'a>(bound: &'a Bound, n: u32, at: At<'a>, node: usize) -> Queue<'a>
     ensures { result
-        ≡ node_rows n (path_at bound.now.tree.nodes n) (at_pieces at.entry) (id_at bound.now.tree.nodes node) }
+        ≡ node_rows n (path_at bound.now.tree.nodes n) (at_pieces at.entry)
+        (id_at bound.now.tree.nodes node) }
 {
     Queue::four(
         bound,
@@ -147,7 +150,8 @@ fn node_rows<'a>(bound: &'a Bound, n: u32, at: At<'a>, node: usize) -> Queue<'a>
 // An entry that names no node.
 fn unspecified<'a>(bound: &'a Bound, n: u32, at: At<'a>) -> Queue<'a>
     ensures { result
-        ≡ plain n (path_at bound.now.tree.nodes n) (at_pieces at.entry ++ lit (codes "_EXISTS") ∷ []) (num 0 ∷ []) ∷ [] }
+        ≡ plain n (path_at bound.now.tree.nodes n)
+        (at_pieces at.entry ++ lit (codes "_EXISTS") ∷ []) (num 0 ∷ []) ∷ [] }
 {
     let exists = number(n, at, Ending::Mark("_EXISTS"), 0);
     Queue::four(bound, Some(exists), None, None, None)
@@ -161,7 +165,8 @@ pub(crate) fn choice_rows<'a>(
     choice: Option<&'a (u32, Text)>,
 ) -> Queue<'a>
     ensures { result
-        ≡ option_map_or (choice_lines n (path_at bound.now.tree.nodes n) (at_pieces at.entry)) (option_map (λ c. c.now) choice.entry) [] }
+        ≡ option_map_or (choice_lines n (path_at bound.now.tree.nodes n) (at_pieces at.entry))
+        (option_map (λ c. c.now) choice.entry) [] }
 {
     match choice {
         Some(choice) => choice_lines(bound, n, at, choice),
@@ -200,13 +205,14 @@ pub(crate) struct ElemRows<'a> {
 impl<'a> Model for ElemRows<'a> {
     ghost use Rattle.std.specs.Prelude.{◌≡◌, ◌+◌, ◌++◌, List, length};
     ghost use Rattle.edt_base.specs.Nodes.{path_at};
-    ghost use Rattle.dt_names.specs.Elems.{elements_left};
+    ghost use Rattle.dt_names.specs.Inner.Elems.{elements_left};
     ghost use Rattle.dt_names.specs.Facts.{FactData, each, elem_lines};
 
     ghost Value = { List FactData };
 
     ghost view = { λ s. s.lines
-        ++ each (elem_lines s.bound.now.tree.nodes s.owner (path_at s.bound.now.tree.nodes s.owner) s.name.text.now s.choices.now) s.index (elements_left s.elems) };
+        ++ each (elem_lines s.bound.now.tree.nodes s.owner (path_at s.bound.now.tree.nodes s.owner)
+        s.name.text.now s.choices.now) s.index (elements_left s.elems) };
 
     ghost invariant = { λ s. s.index + length (elements_left s.elems) ≡ s.count };
 }
@@ -221,7 +227,8 @@ impl<'a> ElemRows<'a> {
         elems: Elems<'a>,
     ) -> ElemRows<'a>
         ensures { result
-            ≡ each (elem_lines bound.now.tree.nodes n (path_at bound.now.tree.nodes n) name.entry.text.now choices.now) 0 (elements_left elems.entry) }
+            ≡ each (elem_lines bound.now.tree.nodes n (path_at bound.now.tree.nodes n)
+            name.entry.text.now choices.now) 0 (elements_left elems.entry) }
     {
         ElemRows {
             bound,

@@ -1,7 +1,7 @@
 //! The elements of a property.
 
 ghost use Rattle.std.specs.Prelude.{◌≡◌, ◌∷◌, [], MatchOption, length};
-ghost use Rattle.dt_names.specs.Elems.{element, elements_left, count_left};
+ghost use Rattle.dt_names.specs.Inner.Elems.{element, elements_left, count_left};
 ghost use Rattle.dt_names.specs.Facts.{elements, elem_count};
 
 use crate::piece::Piece;

@@ -25,7 +25,8 @@ impl<'a> Model for NodesRows<'a> {
 
     ghost Value = { List FactData };
 
-    ghost view = { λ s. unwrap_or s.node [] ++ each (titled_node s.bound.now) s.index (drop s.index s.bound.now.tree.nodes) };
+    ghost view = { λ s. unwrap_or s.node [] ++ each (titled_node s.bound.now) s.index
+        (drop s.index s.bound.now.tree.nodes) };
 }
 
 impl<'a> NodesRows<'a> {

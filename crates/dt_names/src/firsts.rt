@@ -1,7 +1,7 @@
 //! What the first definition of each name says.
 
 ghost use Rattle.std.specs.Prelude.{◌≡◌, IfOk, length};
-ghost use Rattle.dt_names.specs.Firsts.{HasMet};
+ghost use Rattle.dt_names.specs.Inner.Firsts.{HasMet};
 
 use crate::held::{Held, same_said};
 use crate::key::Key;

@@ -6,7 +6,7 @@ ghost use Rattle.edt_base.specs.Forms.{form_of};
 ghost use Rattle.dt_names.specs.Clash.{AreSame, same_params, same_said};
 ghost use Rattle.dt_names.specs.Facts.{elem_visit, id_at};
 ghost use Rattle.dt_names.specs.Pieces.{spells};
-ghost use Rattle.dt_names.specs.Rows.{body_pieces, things_at};
+ghost use Rattle.dt_names.specs.Inner.Rows.{body_pieces, things_at};
 
 use crate::fact::body_of;
 use crate::forms::form_char;
@@ -29,11 +29,15 @@ pub(crate) struct Held<'a> {
 
 impl<'a> Model for Held<'a> {
     ghost use Rattle.dt_names.specs.Clash.{SaidData};
-    ghost use Rattle.dt_names.specs.Rows.{body_pieces};
+    ghost use Rattle.dt_names.specs.Inner.Rows.{body_pieces};
 
     ghost Value = { SaidData };
 
-    ghost view = { λ h. record { params = h.params; body = body_pieces h.bound.now.tree.nodes h.owner h.params h.body } };
+    ghost view = { λ h. record {
+      params = h.params;
+      body = body_pieces h.bound.now.tree.nodes h.owner
+          h.params h.body;
+    } };
 }
 
 impl<'a> Held<'a> {
@@ -89,7 +93,8 @@ fn same_things(
     second: Things<'_>,
 ) -> bool
     ensures { result ≡ true
-        → AreSame (things_at a.now.tree.nodes owner first.entry) (things_at b.now.tree.nodes other second.entry) }
+        → AreSame (things_at a.now.tree.nodes owner first.entry)
+        (things_at b.now.tree.nodes other second.entry) }
 {
     match first {
         Things::Ids(left) => match second {
@@ -115,7 +120,8 @@ fn same_things(
 // Elements of two properties are visited alike, as far as the place.
 fn same_elems(path: &[u8], name: &[u8], other: &[u8], twin: &[u8]) -> bool
     ensures { result ≡ true → (places : List ℕ)
-        → AreSame (map (elem_visit path.now name.now) places) (map (elem_visit other.now twin.now) places) }
+        → AreSame (map (elem_visit path.now name.now) places)
+        (map (elem_visit other.now twin.now) places) }
 {
     path == other && same_form(name, twin)
 }

@@ -4,7 +4,7 @@ ghost use Rattle.std.specs.Prelude.{◌≡◌, ◌∷◌, [], MatchBool};
 ghost use Rattle.edt_base.specs.Nodes.{path_at};
 ghost use Rattle.dt_names.specs.Facts.{each, irq_facts, entry_facts, plain};
 ghost use Rattle.dt_names.specs.Pieces.{lit, num};
-ghost use Rattle.dt_names.specs.Groups.{range_irq_facts};
+ghost use Rattle.dt_names.specs.Inner.Groups.{range_irq_facts};
 
 use crate::cell_rows::EntryRows;
 use crate::fact::{Fact, Single};
@@ -32,7 +32,8 @@ impl<'a> Model for IrqRows<'a> {
 
     ghost Value = { List FactData };
 
-    ghost view = { λ s. s.entry ++ each (irq_facts s.owner (path_at s.bound.now.tree.nodes s.owner)) s.index s.rest.now };
+    ghost view = { λ s. s.entry ++ each
+        (irq_facts s.owner (path_at s.bound.now.tree.nodes s.owner)) s.index s.rest.now };
 
     ghost invariant = { λ s. s.index + length s.rest.now ≡ length s.all.now };
 }

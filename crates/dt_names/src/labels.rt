@@ -2,9 +2,9 @@
 
 ghost use Rattle.std.specs.Prelude.{◌≡◌, ◌∷◌, [], IfOk, IfSome, OnErr, OnOk, MatchBool, MatchOption, Some, List, codes, slice_get, true};
 ghost use Rattle.dt_names.specs.Facts.{facts};
-ghost use Rattle.dt_names.specs.Keys.{AreDistinct, Keeps, Tells, texts_of};
-ghost use Rattle.dt_names.specs.Kept.{HasBase, HasProp, IsLabelled, IsTurned, SharesProp};
-ghost use Rattle.dt_names.specs.Parts.{base_in, sections_left};
+ghost use Rattle.dt_names.specs.Inner.Keys.{AreDistinct, Keeps, Tells, texts_of};
+ghost use Rattle.dt_names.specs.Inner.Kept.{HasBase, HasProp, IsLabelled, IsTurned, SharesProp};
+ghost use Rattle.dt_names.specs.Inner.Parts.{base_in, sections_left};
 ghost use Rattle.dt_names.specs.Pieces.{PieceData, form, lit, spells};
 
 use crate::fact::Fact;
@@ -61,9 +61,9 @@ pub(crate) struct Labels<'a> {
 
 impl<'a> Model for Labels<'a> {
     ghost use Rattle.std.specs.Prelude.{◌++◌};
-    ghost use Rattle.dt_names.specs.Kept.{AreKept, HasEntry, LabelsData};
-    ghost use Rattle.dt_names.specs.Parts.{sections_left};
-    ghost use Rattle.dt_names.specs.Sections.{joined};
+    ghost use Rattle.dt_names.specs.Inner.Kept.{AreKept, HasEntry, LabelsData};
+    ghost use Rattle.dt_names.specs.Inner.Parts.{sections_left};
+    ghost use Rattle.dt_names.specs.Inner.Sections.{joined};
 
     ghost Value = { LabelsData };
 
@@ -126,7 +126,8 @@ impl<'a> Labels<'a> {
 fn turn(alloc: Global, texts: &mut Texts, here: &mut Here<'_>) -> Result<bool, AllocError>
     requires { HasBase texts.old here.old }
     ensures turned { IfOk result
-        (λ more. MatchBool more (IsTurned texts.new here.old here.new) ((sections_left here.old.rest ≡ []) × (here.new ≡ here.old))) }
+        (λ more. MatchBool more (IsTurned texts.new here.old here.new)
+        ((sections_left here.old.rest ≡ []) × (here.new ≡ here.old))) }
     ensures stays { OnErr result (here.new ≡ here.old) }
     ensures kept { Keeps texts.old texts.new }
 {

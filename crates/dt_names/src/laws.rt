@@ -1,7 +1,7 @@
 //! The laws of the definitions' names, as contracts.
 
-ghost use Rattle.dt_names.specs.Alike.{NamesHaveTexts};
-ghost use Rattle.dt_names.specs.Keys.{PropertiesNameThem};
+ghost use Rattle.dt_names.specs.Inner.Alike.{NamesHaveTexts};
+ghost use Rattle.dt_names.specs.Inner.Keys.{PropertiesNameThem};
 ghost use Rattle.dt_names.specs.Names.{NamesAreTold};
 
 /// Two definitions' names are spelled alike only where their markers, words and numbers are the

@@ -1,9 +1,9 @@
 //! What is left of a name behind its id: of what it speaks of, and of how it ends.
 
 ghost use Rattle.std.specs.Prelude.{◌≡◌, ◌∷◌, ◌++◌, [], MatchOption};
-ghost use Rattle.dt_names.specs.Left.{at_left, ending_left};
-ghost use Rattle.dt_names.specs.Rows.{at_pieces};
-ghost use Rattle.dt_names.specs.Words.{word_pieces};
+ghost use Rattle.dt_names.specs.Inner.Left.{at_left, ending_left};
+ghost use Rattle.dt_names.specs.Inner.Rows.{at_pieces};
+ghost use Rattle.dt_names.specs.Inner.Words.{word_pieces};
 
 use crate::piece::Piece;
 use crate::row::{At, Ending};

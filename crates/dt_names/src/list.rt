@@ -3,10 +3,10 @@
 ghost use Rattle.std.specs.Prelude.{◌≡◌, ◌∷◌, ◌++◌, [], MatchOption};
 ghost use Rattle.dt_names.specs.Facts.{between, visit_end};
 ghost use Rattle.edt_base.specs.Nodes.{okay_of, is_okay};
-ghost use Rattle.dt_names.specs.Lists.{listed, things_of, thing_pieces, values_of};
+ghost use Rattle.dt_names.specs.Inner.Lists.{listed, things_of, thing_pieces, values_of};
 ghost use Rattle.dt_names.specs.Pieces.{lit, num};
-ghost use Rattle.dt_names.specs.Places.{places_in};
-ghost use Rattle.dt_names.specs.Words.{piece_of, word_pieces};
+ghost use Rattle.dt_names.specs.Inner.Places.{places_in};
+ghost use Rattle.dt_names.specs.Inner.Words.{piece_of, word_pieces};
 ghost use Rattle.dt_names.specs.declared.list.Listed.TheVariants.{Within};
 
 use crate::piece::{Params, Piece};

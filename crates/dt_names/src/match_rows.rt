@@ -26,7 +26,8 @@ impl<'a> Model for Marked<'a> {
 
     ghost Value = { List FactData };
 
-    ghost view = { λ s. map (marked s.owner (path_at s.bound.now.tree.nodes s.owner) s.mark.now) s.rest.now };
+    ghost view = { λ s. map (marked s.owner (path_at s.bound.now.tree.nodes s.owner) s.mark.now)
+        s.rest.now };
 }
 
 impl<'a> Marked<'a> {

@@ -3,7 +3,7 @@
 ghost use Rattle.std.specs.Prelude.{◌≡◌, ◌∷◌, [], option_map, slice_get, unwrap_or, MatchBool};
 ghost use Rattle.edt_base.specs.Nodes.{path_at};
 ghost use Rattle.dt_names.specs.Facts.{node_facts, titled, titled_node};
-ghost use Rattle.dt_names.specs.Sections.{head_facts, head_section, props_at};
+ghost use Rattle.dt_names.specs.Inner.Sections.{head_facts, head_section, props_at};
 
 use crate::child_rows::ChildRows;
 use crate::fact::{Fact, Queue};
@@ -78,7 +78,7 @@ pub(crate) struct TitledHead<'a> {
 impl<'a> Model for TitledHead<'a> {
     ghost use Rattle.std.specs.Prelude.{List, option_map};
     ghost use Rattle.dt_names.specs.Facts.{FactData};
-    ghost use Rattle.dt_names.specs.Rows.{titled_by};
+    ghost use Rattle.dt_names.specs.Inner.Rows.{titled_by};
 
     ghost Value = { List FactData };
 

@@ -2,13 +2,13 @@
 
 ghost use Rattle.std.specs.Prelude.{◌≡◌, ◌∷◌, ◌++◌, [], MatchOption, codes};
 ghost use Rattle.dt_names.specs.Facts.{id_pieces, name_first, names_pieces};
-ghost use Rattle.dt_names.specs.Ids.{id_left};
-ghost use Rattle.dt_names.specs.Left.{behind_id};
-ghost use Rattle.dt_names.specs.Lengths.{spelled_size};
-ghost use Rattle.dt_names.specs.Lists.{listed};
+ghost use Rattle.dt_names.specs.Inner.Ids.{id_left};
+ghost use Rattle.dt_names.specs.Inner.Left.{behind_id};
+ghost use Rattle.dt_names.specs.Inner.Lengths.{spelled_size};
+ghost use Rattle.dt_names.specs.Inner.Lists.{listed};
 ghost use Rattle.dt_names.specs.Pieces.{lit, form};
-ghost use Rattle.dt_names.specs.Rows.{tail_pieces};
-ghost use Rattle.dt_names.specs.Words.{piece_of, word_pieces};
+ghost use Rattle.dt_names.specs.Inner.Rows.{tail_pieces};
+ghost use Rattle.dt_names.specs.Inner.Words.{piece_of, word_pieces};
 
 use crate::left::{AtLeft, EndingLeft, next_at, next_ending};
 use crate::length::{behind_len, piece_len};
@@ -41,8 +41,8 @@ pub struct Pieces<'a> {
 
 impl<'a> Model for Pieces<'a> {
     ghost use Rattle.std.specs.Prelude.{◌++◌, List};
-    ghost use Rattle.dt_names.specs.Ids.{id_left};
-    ghost use Rattle.dt_names.specs.Left.{behind_id};
+    ghost use Rattle.dt_names.specs.Inner.Ids.{id_left};
+    ghost use Rattle.dt_names.specs.Inner.Left.{behind_id};
     ghost use Rattle.dt_names.specs.Pieces.{PieceData};
 
     ghost Value = { List PieceData };

@@ -13,7 +13,7 @@ pub(crate) struct Places {
 impl Places {
     ghost use Rattle.std.specs.Prelude.{◌≡◌, ◌∷◌, [], MatchOption};
     ghost use Rattle.std.specs.List.{range_with_len};
-    ghost use Rattle.dt_names.specs.Places.{places_in};
+    ghost use Rattle.dt_names.specs.Inner.Places.{places_in};
 
     /// The places from 0, so many.
     pub(crate) fn below(count: usize) -> Places

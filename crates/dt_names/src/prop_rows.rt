@@ -4,8 +4,8 @@ ghost use Rattle.std.specs.Prelude.{◌≡◌, ◌∷◌, [], option_map, unwrap
 ghost use Rattle.std.specs.List.{flat_map};
 ghost use Rattle.std.specs.Option.{option_map_or};
 ghost use Rattle.edt_base.specs.Nodes.{path_at};
-ghost use Rattle.dt_names.specs.Rows.{body_pieces};
-ghost use Rattle.dt_names.specs.Groups.{shown_as};
+ghost use Rattle.dt_names.specs.Inner.Rows.{body_pieces};
+ghost use Rattle.dt_names.specs.Inner.Groups.{shown_as};
 ghost use Rattle.dt_names.specs.declared.piece.Params.TheVariants.{Plain};
 ghost use Rattle.dt_names.specs.Facts.{choice_lines, choice_of, count_facts, counted, each, elem_lines, elements, elem_choices, is_compound, is_shown, is_uncounted, of_prop, plain, prop_facts, shown_facts, there, value_body};
 
@@ -51,7 +51,8 @@ impl<'a> PropRows<'a> {
     // The same, where its name's form is counted.
     fn of(bound: &'a Bound, n: u32, name: Name<'a>, prop: &'a Prop) -> PropRows<'a>
         ensures { result
-            ≡ shown_as bound.now.tree.nodes n (path_at bound.now.tree.nodes n) name.entry.text.now prop.now }
+            ≡ shown_as bound.now.tree.nodes n (path_at bound.now.tree.nodes n) name.entry.text.now
+            prop.now }
     {
         PropRows {
             value: value_row(bound, n, name, prop),
@@ -147,7 +148,8 @@ impl<'a> CountRows<'a> {
 // The choice of an int or a string.
 fn prop_choice<'a>(bound: &'a Bound, n: u32, name: Name<'a>, prop: &'a Prop) -> Queue<'a>
     ensures { result
-        ≡ option_map_or (choice_lines n (path_at bound.now.tree.nodes n) (of_prop name.entry.text.now [])) (choice_of prop.now.choices prop.now.val) [] }
+        ≡ option_map_or (choice_lines n (path_at bound.now.tree.nodes n)
+        (of_prop name.entry.text.now [])) (choice_of prop.now.choices prop.now.val) [] }
 {
     choice_rows(bound, n, At::Prop(name), first_choice(prop))
 }
@@ -155,7 +157,9 @@ fn prop_choice<'a>(bound: &'a Bound, n: u32, name: Name<'a>, prop: &'a Prop) -> 
 // The elements.
 fn prop_elems<'a>(bound: &'a Bound, n: u32, name: Name<'a>, prop: &'a Prop) -> ElemRows<'a>
     ensures { result
-        ≡ each (elem_lines bound.now.tree.nodes n (path_at bound.now.tree.nodes n) name.entry.text.now (elem_choices prop.now.choices prop.now.val)) 0 (elements prop.now.ty prop.now.val) }
+        ≡ each (elem_lines bound.now.tree.nodes n (path_at bound.now.tree.nodes n)
+        name.entry.text.now (elem_choices prop.now.choices prop.now.val)) 0
+        (elements prop.now.ty prop.now.val) }
 {
     ElemRows::new(bound, n, name, elem_choices(prop), elems_of(prop))
 }
@@ -163,7 +167,8 @@ fn prop_elems<'a>(bound: &'a Bound, n: u32, name: Name<'a>, prop: &'a Prop) -> E
 // The number of the elements, where they are counted.
 fn prop_counts<'a>(bound: &'a Bound, n: u32, name: Name<'a>, prop: &'a Prop) -> CountRows<'a>
     ensures { result
-        ≡ option_map_or (count_facts n (path_at bound.now.tree.nodes n) name.entry.text.now) (counted prop.now) [] }
+        ≡ option_map_or (count_facts n (path_at bound.now.tree.nodes n) name.entry.text.now)
+        (counted prop.now) [] }
 {
     match counted(prop) {
         Some(count) => CountRows::new(bound, n, name, count),
@@ -181,7 +186,8 @@ fn name_of(prop: &Prop) -> &[u8]
 fn value_row<'a>(bound: &'a Bound, n: u32, name: Name<'a>, prop: &'a Prop) -> Single<'a>
     ensures { result
         ≡ there (option_map
-        (λ body. plain n (path_at bound.now.tree.nodes n) (of_prop name.entry.text.now []) body) (value_body bound.now.tree.nodes prop.now.val)) }
+        (λ body. plain n (path_at bound.now.tree.nodes n) (of_prop name.entry.text.now []) body)
+        (value_body bound.now.tree.nodes prop.now.val)) }
 {
     match &prop.val {
         Val::Bool(truth) => {
@@ -217,7 +223,8 @@ fn value_row<'a>(bound: &'a Bound, n: u32, name: Name<'a>, prop: &'a Prop) -> Si
 
 fn value_of<'a>(bound: &'a Bound, n: u32, name: Name<'a>, body: Body<'a>) -> Single<'a>
     ensures { result
-        ≡ plain n (path_at bound.now.tree.nodes n) (of_prop name.entry.text.now []) (body_pieces bound.now.tree.nodes n Plain body.entry) ∷ [] }
+        ≡ plain n (path_at bound.now.tree.nodes n) (of_prop name.entry.text.now [])
+        (body_pieces bound.now.tree.nodes n Plain body.entry) ∷ [] }
 {
     Single::new(bound, Some(plain(n, At::Prop(name), Ending::Nothing, body)))
 }
@@ -314,14 +321,17 @@ impl<'a> Model for PropsRows<'a> {
 
     ghost Value = { List FactData };
 
-    ghost view = { λ s. unwrap_or s.prop [] ++ flat_map (prop_facts s.bound.now.tree.nodes s.owner (path_at s.bound.now.tree.nodes s.owner)) s.rest.now };
+    ghost view = { λ s. unwrap_or s.prop [] ++ flat_map
+        (prop_facts s.bound.now.tree.nodes s.owner (path_at s.bound.now.tree.nodes s.owner))
+        s.rest.now };
 }
 
 impl<'a> PropsRows<'a> {
     /// Those of the node n.
     pub(crate) fn new(bound: &'a Bound, n: u32, props: &'a [Prop]) -> PropsRows<'a>
         ensures { result
-            ≡ flat_map (prop_facts bound.now.tree.nodes n (path_at bound.now.tree.nodes n)) props.now }
+            ≡ flat_map (prop_facts bound.now.tree.nodes n (path_at bound.now.tree.nodes n))
+            props.now }
     {
         PropsRows {
             bound,

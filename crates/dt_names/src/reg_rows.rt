@@ -5,7 +5,7 @@ ghost use Rattle.std.specs.Option.{option_map_or};
 ghost use Rattle.edt_base.specs.Nodes.{path_at};
 ghost use Rattle.dt_names.specs.Facts.{each, reg_lines, reg_facts, range_facts, range_lines};
 ghost use Rattle.dt_names.specs.Pieces.{lit, form};
-ghost use Rattle.dt_names.specs.Rows.{at_pieces};
+ghost use Rattle.dt_names.specs.Inner.Rows.{at_pieces};
 
 use crate::fact::{Fact, Queue};
 use crate::row::{At, Ending};
@@ -87,7 +87,8 @@ impl<'a> Model for RegRows<'a> {
 
     ghost Value = { List FactData };
 
-    ghost view = { λ s. s.lines ++ each (reg_facts s.owner (path_at s.bound.now.tree.nodes s.owner)) s.index s.rest.now };
+    ghost view = { λ s. s.lines ++ each
+        (reg_facts s.owner (path_at s.bound.now.tree.nodes s.owner)) s.index s.rest.now };
 
     ghost invariant = { λ s. s.index + length s.rest.now ≡ length s.all.now };
 }
@@ -156,7 +157,8 @@ fn reg_lines<'a>(bound: &'a Bound, n: u32, at: At<'a>, reg: &'a Reg) -> Queue<'a
 // A register by its name, where it has one.
 fn named_lines<'a>(bound: &'a Bound, n: u32, reg: &'a Reg) -> Queue<'a>
     ensures { result ≡ option_map_or
-        (λ m. reg_lines n (path_at bound.now.tree.nodes n) (lit (codes "_REG_NAME_") ∷ form m ∷ []) reg.now) reg.now.name [] }
+        (λ m. reg_lines n (path_at bound.now.tree.nodes n) (lit (codes "_REG_NAME_") ∷ form m ∷ [])
+        reg.now) reg.now.name [] }
 {
     match &reg.name {
         Some(name) => {
@@ -185,7 +187,8 @@ impl<'a> Model for RangeRows<'a> {
 
     ghost Value = { List FactData };
 
-    ghost view = { λ s. s.indexed ++ each (range_facts s.owner (path_at s.bound.now.tree.nodes s.owner)) s.index s.rest.now };
+    ghost view = { λ s. s.indexed ++ each
+        (range_facts s.owner (path_at s.bound.now.tree.nodes s.owner)) s.index s.rest.now };
 
     ghost invariant = { λ s. s.index + length s.rest.now ≡ length s.all.now };
 }

@@ -45,7 +45,7 @@ pub(crate) struct Rows<'a> {
 impl<'a> Model for Rows<'a> {
     ghost use Rattle.std.specs.Prelude.{List};
     ghost use Rattle.dt_names.specs.Facts.{FactData};
-    ghost use Rattle.dt_names.specs.Parts.{rows_in};
+    ghost use Rattle.dt_names.specs.Inner.Parts.{rows_in};
 
     ghost Value = { List FactData };
 

@@ -3,11 +3,11 @@
 ghost use Rattle.std.specs.Prelude.{◌≡◌, [], List, MatchOption, drop, true};
 ghost use Rattle.edt_base.specs.Nodes.{path_at};
 ghost use Rattle.dt_names.specs.Facts.{facts, id_at, prop_facts};
-ghost use Rattle.dt_names.specs.Keys.{GoOn};
-ghost use Rattle.dt_names.specs.Parts.{IsNext, IsSplit, SpeakOf, base_in, base_left, props_of, sections_left};
+ghost use Rattle.dt_names.specs.Inner.Keys.{GoOn};
+ghost use Rattle.dt_names.specs.Inner.Parts.{IsNext, IsSplit, SpeakOf, base_in, base_left, props_of, sections_left};
 ghost use Rattle.dt_names.specs.Pieces.{PieceData};
-ghost use Rattle.dt_names.specs.Sections.{AreBased, head_section, joined, props_at, tree_section};
-ghost use Rattle.dt_names.specs.Standing.{StandsAt};
+ghost use Rattle.dt_names.specs.Inner.Sections.{AreBased, head_section, joined, props_at, tree_section};
+ghost use Rattle.dt_names.specs.Inner.Standing.{StandsAt};
 
 use crate::child_place::node_from;
 use crate::node_rows::{props_at, titled_head};

@@ -60,7 +60,8 @@ impl<'a> Model for LabelRows<'a> {
     ghost Value = { List FactData };
 
     ghost view = { λ s. map
-        (λ label. link s.bound.now.tree.nodes (codes "DT_N_NODELABEL_") (label, s.owner)) s.labels.now
+        (λ label. link s.bound.now.tree.nodes (codes "DT_N_NODELABEL_") (label, s.owner))
+        s.labels.now
         ++ each (label_facts s.bound.now.tree.nodes) s.index (drop s.index s.bound.now.tree.nodes) };
 }
 
@@ -251,7 +252,7 @@ pub(crate) struct TitledTree<'a> {
 impl<'a> Model for TitledTree<'a> {
     ghost use Rattle.std.specs.Prelude.{List, option_map};
     ghost use Rattle.dt_names.specs.Facts.{FactData};
-    ghost use Rattle.dt_names.specs.Rows.{titled_by};
+    ghost use Rattle.dt_names.specs.Inner.Rows.{titled_by};
 
     ghost Value = { List FactData };
 

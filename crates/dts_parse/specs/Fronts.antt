@@ -117,9 +117,12 @@ pub data Site (base : Bool) : Type 0 where
 
 abbrev pub spell_site : {base : Bool} → Site base → List Token
 spell_site (In_value top b ls) = spell_labels ls (spell_before b (spell_beginning top))
-spell_site (After_part top b ls part after) = spell_labels after (spell_written part (spell_labels ls (spell_before b (spell_beginning top))))
+spell_site (After_part top b ls part after) =
+    spell_labels after (spell_written part (spell_labels ls (spell_before b (spell_beginning top))))
 spell_site (In_list w l) = spell_listed l
-spell_site (In_hex top b ls begin ps now) = spell_labels now (spell_pairs ps (token sign.LeftSquare begin ∷ spell_labels ls (spell_before b (spell_beginning top))))
+spell_site (In_hex top b ls begin ps now) =
+    spell_labels now
+    (spell_pairs ps (token sign.LeftSquare begin ∷ spell_labels ls (spell_before b (spell_beginning top))))
 
 -- ---- fronts
 
@@ -148,10 +151,13 @@ spell_front (At_directive ps fit b may) = spell_begun b (spell_pieces ps)
 spell_front (At_end ps fit s may) = spell_short s (spell_pieces ps)
 spell_front (At_site s) = spell_site s
 spell_front (At_colon s n) = name_token form.Label n ∷ spell_site s
-spell_front (At_bits top b ls directive) = token sign.Bits directive ∷ spell_labels ls (spell_before b (spell_beginning top))
-spell_front (At_angle top b ls directive n w is number) = token (sign.Number n) number ∷ token sign.Bits directive ∷ spell_labels ls (spell_before b (spell_beginning top))
+spell_front (At_bits top b ls directive) =
+    token sign.Bits directive ∷ spell_labels ls (spell_before b (spell_beginning top))
+spell_front (At_angle top b ls directive n w is number) =
+    token (sign.Number n) number ∷ token sign.Bits directive ∷ spell_labels ls (spell_before b (spell_beginning top))
 spell_front (Before_operand w l begin x proper) = spell_waiting x (token sign.LeftRound begin ∷ spell_listed l)
-spell_front (After_operand w l begin x proper e is fits) = spell e (spell_waiting x (token sign.LeftRound begin ∷ spell_listed l))
+spell_front (After_operand w l begin x proper e is fits) =
+    spell e (spell_waiting x (token sign.LeftRound begin ∷ spell_listed l))
 
 -- ---- what is open
 

@@ -126,7 +126,8 @@ pub data Short : Type 0 where
 abbrev pub spell_short : Short → List Token → List Token
 spell_short (Version_ d) before = token sign.Version d ∷ before
 spell_short (Plugin_ d) before = token sign.Plugin d ∷ before
-spell_short (Reserve_ d m p n q) before = token (numeral_sign n) q ∷ token (numeral_sign m) p ∷ token sign.Reserve d ∷ before
+spell_short (Reserve_ d m p n q) before =
+    token (numeral_sign n) q ∷ token (numeral_sign m) p ∷ token sign.Reserve d ∷ before
 spell_short (Delete_ref d p) before = token sign.Ref p ∷ token sign.DeleteNode d ∷ before
 spell_short (Omit_ref d p) before = token sign.Ref p ∷ token sign.Omit d ∷ before
 spell_short (Delete_child d f n is) before = name_token f n ∷ token sign.DeleteNode d ∷ before
@@ -175,12 +176,18 @@ pub data Pieces : Type 0 where
 abbrev pub spell_pieces : Pieces → List Token
 spell_pieces Nothing_yet = []
 spell_pieces (Short_ ps s semicolon) = token sign.Semicolon semicolon ∷ spell_short s (spell_pieces ps)
-spell_pieces (Open_root ps lead slash brace) = token sign.LeftBrace brace ∷ token sign.Slash slash ∷ spell_lead lead (spell_pieces ps)
-spell_pieces (Open_ref ps lead ref brace) = token sign.LeftBrace brace ∷ token sign.Ref ref ∷ spell_lead lead (spell_pieces ps)
-spell_pieces (Open_child ps lead f n brace) = token sign.LeftBrace brace ∷ name_token f n ∷ spell_lead lead (spell_pieces ps)
-spell_pieces (Flag_ ps lead f n semicolon) = token sign.Semicolon semicolon ∷ name_token f n ∷ spell_lead lead (spell_pieces ps)
+spell_pieces (Open_root ps lead slash brace) =
+    token sign.LeftBrace brace ∷ token sign.Slash slash ∷ spell_lead lead (spell_pieces ps)
+spell_pieces (Open_ref ps lead ref brace) =
+    token sign.LeftBrace brace ∷ token sign.Ref ref ∷ spell_lead lead (spell_pieces ps)
+spell_pieces (Open_child ps lead f n brace) =
+    token sign.LeftBrace brace ∷ name_token f n ∷ spell_lead lead (spell_pieces ps)
+spell_pieces (Flag_ ps lead f n semicolon) =
+    token sign.Semicolon semicolon ∷ name_token f n ∷ spell_lead lead (spell_pieces ps)
 spell_pieces (Assign_ ps lead f n equal b ls part after semicolon) =
-    token sign.Semicolon semicolon ∷ spell_labels after (spell_written part (spell_labels ls (spell_before b (token sign.Equal equal ∷ name_token f n ∷ spell_lead lead (spell_pieces ps)))))
+    token sign.Semicolon semicolon ∷ spell_labels after
+    (spell_written part (spell_labels ls
+    (spell_before b (token sign.Equal equal ∷ name_token f n ∷ spell_lead lead (spell_pieces ps)))))
 
 -- where they lead, from the beginning of a base or an overlay
 abbrev pub place : Bool → Pieces → Place

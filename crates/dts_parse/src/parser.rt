@@ -177,7 +177,8 @@ impl<'a> Parser<'a> {
     fn take_limited(&mut self, alloc: Global, token: &Token<'a>) -> Result<(), Stop>
         requires { is_opening (in_rounds (shown self.old).mode) token.now.sign ≡ true
             → (shown self.old).depth < 64 }
-        ensures { Leaves (shown self.new) result (limited token.now.spot (taken (shown self.old) token.now.spot token.now.sign)) }
+        ensures { Leaves (shown self.new) result
+            (limited token.now.spot (taken (shown self.old) token.now.spot token.now.sign)) }
     {
         let at = token.at;
         match self.take_token(alloc, token) {
@@ -191,7 +192,8 @@ impl<'a> Parser<'a> {
     fn take_token(&mut self, alloc: Global, token: &Token<'a>) -> Result<(), Stop>
         requires { is_opening (in_rounds (shown self.old).mode) token.now.sign ≡ true
             → (shown self.old).depth < 64 }
-        ensures { Leaves (shown self.new) result (taken (shown self.old) token.now.spot token.now.sign) }
+        ensures { Leaves (shown self.new) result
+            (taken (shown self.old) token.now.spot token.now.sign) }
     {
         if self.colon {
             return self.at_colon(token);

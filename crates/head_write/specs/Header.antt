@@ -43,7 +43,8 @@ behind place (d ∷ ds) = if place == d then ds else d ∷ ds
 -- definitions, the first at a place, each with whether it stands at one of these places, which rise
 abbrev pub entries_from : ℕ → List ℕ → List FactData → List Entry
 entries_from place doubles [] = []
-entries_from place doubles (f ∷ fs) = record { fact = f; is_double = is_first place doubles } ∷ entries_from (place + 1) (behind place doubles) fs
+entries_from place doubles (f ∷ fs) =
+    record { fact = f; is_double = is_first place doubles } ∷ entries_from (place + 1) (behind place doubles) fs
 
 -- all definitions of a bound tree in order, each with whether it is a double
 unfoldable pub entries : BoundData → List Entry

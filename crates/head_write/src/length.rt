@@ -1,7 +1,7 @@
 //! The length of the header, without writing it.
 
 ghost use Rattle.std.specs.Prelude.{◌≡◌, ◌-◌, ◌^◌, length, min, option_map};
-ghost use Rattle.dt_names.specs.Lengths.{spelled_size};
+ghost use Rattle.dt_names.specs.Inner.Lengths.{spelled_size};
 ghost use Rattle.head_write.specs.Header.{body_text, entry_text, header_text, heading_text, line};
 
 use crate::entry::{Entries, Entry};

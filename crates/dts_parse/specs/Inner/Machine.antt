@@ -101,32 +101,51 @@ at_opening s p opening =
 abbrev pub at_mark : Shape → Spot → Step
 at_mark s p =
     if takes_inner (place_now s) then Ok (record s { marks = s.marks ++ p.at ∷ [] })
-    else if is_bare s && takes_top (place_now s) then Ok (record s { mode = mode.Directive wanted.OmittedRef; begin = p.at })
+    else if is_bare s && takes_top (place_now s) then Ok
+    (record s { mode = mode.Directive wanted.OmittedRef; begin = p.at })
     else refused p
 
 abbrev pub at_close : Shape → Spot → Step
 at_close s p =
     if is_bare s && takes_inner (place_now s)
-    then Ok (record s { mode = mode.Ending; stage = stage.Rest; depth = below s.depth; opened = tail s.opened; out = (s.out ++ stmt p.at Close ∷ []) ++ head s.opened })
+    then Ok (record s {
+      mode = mode.Ending;
+      stage = stage.Rest;
+      depth = below s.depth;
+      opened = tail s.opened;
+      out =
+          (s.out ++ stmt p.at Close ∷ []) ++ head s.opened;
+    })
     else refused p
 
 abbrev pub at_deletion : Shape → Spot → Step
 at_deletion s p =
-    if is_bare s && takes_inner (place_now s) then Ok (record s { mode = mode.Directive wanted.DeletedChild; begin = p.at })
-    else if is_bare s && takes_top (place_now s) then Ok (record s { mode = mode.Directive wanted.DeletedRef; begin = p.at })
+    if is_bare s && takes_inner (place_now s) then Ok
+    (record s { mode = mode.Directive wanted.DeletedChild; begin = p.at })
+    else if is_bare s && takes_top (place_now s) then Ok
+    (record s { mode = mode.Directive wanted.DeletedRef; begin = p.at })
     else refused p
 
 abbrev pub in_body : Shape → Spot → Sign → Step
-in_body s p (sign.Name f) = if may_name (place_now s) (is_empty s.marks) f then Ok (record s { mode = mode.Named f; name = Some p }) else refused p
+in_body s p (sign.Name f) =
+    if may_name (place_now s) (is_empty s.marks) f then Ok (record s { mode = mode.Named f; name = Some p }) else
+    refused p
 in_body s p sign.Slash = at_opening s p (stmt p.at (Open target.Root))
 in_body s p sign.Ref = at_opening s p (stmt p.at (Open (target_of p.text)))
 in_body s p sign.Omit = at_mark s p
 in_body s p sign.RightBrace = at_close s p
-in_body s p sign.Version = if is_bare s && takes_version (place_now s) then Ok (record s { mode = mode.Ending; stage = stage.Versions }) else refused p
-in_body s p sign.Plugin = if is_bare s && takes_top (place_now s) then Ok (record s { mode = mode.Ending; stage = stage.Rest }) else refused p
-in_body s p sign.Reserve = if is_bare s && takes_top (place_now s) then Ok (record s { mode = mode.Directive wanted.FirstNumber; begin = p.at }) else refused p
+in_body s p sign.Version =
+    if is_bare s && takes_version (place_now s) then Ok (record s { mode = mode.Ending; stage = stage.Versions }) else
+    refused p
+in_body s p sign.Plugin =
+    if is_bare s && takes_top (place_now s) then Ok (record s { mode = mode.Ending; stage = stage.Rest }) else refused p
+in_body s p sign.Reserve =
+    if is_bare s && takes_top (place_now s) then Ok
+    (record s { mode = mode.Directive wanted.FirstNumber; begin = p.at }) else refused p
 in_body s p sign.DeleteNode = at_deletion s p
-in_body s p sign.DeleteProp = if is_bare s && takes_inner (place_now s) then Ok (record s { mode = mode.Directive wanted.DeletedProp; begin = p.at }) else refused p
+in_body s p sign.DeleteProp =
+    if is_bare s && takes_inner (place_now s) then Ok
+    (record s { mode = mode.Directive wanted.DeletedProp; begin = p.at }) else refused p
 in_body s p _ = refused p
 
 -- a property stands where no mark is
@@ -144,7 +163,16 @@ at_label _ s p n = refused p
 
 abbrev pub at_flag : Form → Shape → Spot → Spot → Step
 at_flag f s p n =
-    if is_prop s f then Ok (record s { mode = mode.Body; stage = stage.Rest; name = None; labels = []; marks = []; out = s.out ++ stmt n.at (Assign n.text []) ∷ [] })
+    if is_prop s f then Ok
+    (record s {
+      mode = mode.Body;
+      stage = stage.Rest;
+      name = None;
+      labels = [];
+      marks = [];
+      out = s.out ++ stmt
+          n.at (Assign n.text []) ∷ [];
+    })
     else refused p
 
 abbrev pub at_child : Form → Shape → Spot → Spot → Step
@@ -174,7 +202,8 @@ abbrev pub named : Form → Shape → Spot → Sign → Step
 named f s p t = elim s.name [ None ↦ refused p | Some n ↦ behind_name f s p n t ]
 
 abbrev pub at_brace : Shape → Spot → Sign → Step
-at_brace s p sign.LeftBrace = Ok (record s { mode = mode.Body; stage = stage.Rest; depth = suc s.depth; opened = [] ∷ s.opened })
+at_brace s p sign.LeftBrace =
+    Ok (record s { mode = mode.Body; stage = stage.Rest; depth = suc s.depth; opened = [] ∷ s.opened })
 at_brace s p _ = refused p
 
 abbrev pub at_end : Shape → Spot → Sign → Step
@@ -251,7 +280,12 @@ behind_width w s p _ = refused p
 abbrev pub put : Width → Bool → Option ℕ → ℕ → Shape → Step
 put w huge n at s =
     if misfits w huge n then Err (record { rule = S5; at = at })
-    else Ok (record s { mode = mode.Cells w listing.Elements; cells = cells_with w n s.cells; bytes = bytes_with w n s.bytes })
+    else Ok (record s {
+      mode = mode.Cells w listing.Elements;
+      cells = cells_with w n s.cells;
+      bytes = bytes_with w n
+          s.bytes;
+    })
 
 abbrev pub at_ref : Width → Shape → Spot → Step
 at_ref Bits32 s p = Ok (record s {
@@ -342,12 +376,15 @@ abbrev pub before_operand : Width → Shape → Spot → Sign → Step
 before_operand w s p (sign.Number n) = operand_is w s s.huge (Some n)
 before_operand w s p sign.Huge = operand_is w s true None
 before_operand w s p (sign.Char n) = operand_is w s s.huge (Some n)
-before_operand w s p sign.LeftRound = Ok (record s { depth = suc s.depth; long = more s.long; frames = frame.Round ∷ s.frames })
+before_operand w s p sign.LeftRound =
+    Ok (record s { depth = suc s.depth; long = more s.long; frames = frame.Round ∷ s.frames })
 before_operand w s p t = elim (un_of t) [ None ↦ refused p | Some o ↦ waits w s (frame.Un o) s.frames ]
 
 abbrev pub closed_case : Width → Shape → Spot → List Frame → Option ℕ → Step
-closed_case w s p [] v = put w s.huge v s.begin (record s { depth = below s.depth; begin = 0; long = 0; huge = false; frames = [] })
-closed_case w s p (frame.Round ∷ fs) v = Ok (record s { mode = mode.Operator w v; depth = below s.depth; long = more s.long; frames = fs })
+closed_case w s p [] v =
+    put w s.huge v s.begin (record s { depth = below s.depth; begin = 0; long = 0; huge = false; frames = [] })
+closed_case w s p (frame.Round ∷ fs) v =
+    Ok (record s { mode = mode.Operator w v; depth = below s.depth; long = more s.long; frames = fs })
 closed_case w s p _ v = refused p
 
 abbrev pub closed_round : Width → Shape → Spot → Climbed → Step
@@ -370,7 +407,8 @@ abbrev pub behind_operand : Width → Option ℕ → Shape → Spot → Sign →
 behind_operand w v s p sign.RightRound = closed_round w s p (climbed 12 s.frames v)
 behind_operand w v s p sign.Colon = chosen w s p (climbed 12 s.frames v)
 behind_operand w v s p sign.Question = tested w s (climbed 11 s.frames v)
-behind_operand w v s p t = elim (bin_of t) [ None ↦ refused p | Some o ↦ joined w s o (climbed (op_level o) s.frames v) ]
+behind_operand w v s p t =
+    elim (bin_of t) [ None ↦ refused p | Some o ↦ joined w s o (climbed (op_level o) s.frames v) ]
 
 -- ---- a token
 

@@ -4,10 +4,11 @@ use Rattle.std.specs.Prelude.{◌≡◌, ◌+◌, ◌++◌, ℕ, true, List, [],
 use Rattle.std.specs.List.{Contains}
 use Rattle.dt_names.specs.Clash.{SaidData, said, same_said, AreFree, doubles_from}
 use Rattle.dt_names.specs.Facts.{FactData}
-use Rattle.dt_names.specs.Keys.{Tells, texts_of}
+use Rattle.dt_names.specs.Inner.Keys.{Tells, texts_of}
 use Rattle.dt_names.specs.declared.key.Key.{Key}
 
-pub record IsScanned (fs left : List FactData) (texts : List (List ℕ)) (keys : List Key) (held : List SaidData) (doubles : List ℕ) : Type 0 where
+pub record IsScanned (fs left : List FactData) (texts : List (List ℕ)) (keys : List Key) (held : List SaidData)
+    (doubles : List ℕ) : Type 0 where
   -- the definitions so far
   pub earlier : List FactData
   pub parts : fs ≡ earlier ++ left

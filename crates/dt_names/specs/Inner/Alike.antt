@@ -3,7 +3,7 @@ use Rattle.std.specs.Prelude.{◌≡◌, ◌↔◌}
 use Rattle.std.specs.List.{Contains}
 use Rattle.edt_base.specs.BoundData.{BoundData}
 use Rattle.dt_names.specs.Facts.{FactData, full_name, facts}
-use Rattle.dt_names.specs.Keys.{texts_of}
+use Rattle.dt_names.specs.Inner.Keys.{texts_of}
 use Rattle.dt_names.specs.Pieces.{spells}
 
 -- the names of two definitions are spelled alike exactly where their four texts are the same

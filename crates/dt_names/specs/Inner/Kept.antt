@@ -1,10 +1,10 @@
 -- What the walk over the definitions keeps of the numbers of their names' texts.
 use Rattle.std.specs.Prelude.{◌≡◌, ℕ, List, [], ◌∷◌, Option, Some, IfSome, codes, drop, slice_get}
 use Rattle.dt_names.specs.Facts.{FactData}
-use Rattle.dt_names.specs.Keys.{AreDistinct, GoOn, GoOnFrom, Keeps, Tells, texts_of}
-use Rattle.dt_names.specs.Parts.{SpeakOf, base_left, sections_left}
+use Rattle.dt_names.specs.Inner.Keys.{AreDistinct, GoOn, GoOnFrom, Keeps, Tells, texts_of}
+use Rattle.dt_names.specs.Inner.Parts.{SpeakOf, base_left, sections_left}
 use Rattle.dt_names.specs.Pieces.{lit, form, spells}
-use Rattle.dt_names.specs.Sections.{AreBased}
+use Rattle.dt_names.specs.Inner.Sections.{AreBased}
 use Rattle.dt_names.specs.declared.key.Key.{Key}
 use Rattle.dt_names.specs.declared.labels.Here.{Here}
 use Rattle.dt_names.specs.declared.section.Of.{Of}
