@@ -243,7 +243,7 @@ fn tree_of(
 }
 
 // The tree of these properties. No row has a `phandle`.
-fn board(alloc: Global, top: &str, middle: &str, low: &str) -> Result<Tree, AllocError>
+pub fn board(alloc: Global, top: &str, middle: &str, low: &str) -> Result<Tree, AllocError>
     ensures { IfOk result (λ t. length t.nodes ≡ 3) }
 {
     let (top, middle, low) = (
@@ -258,7 +258,7 @@ fn board(alloc: Global, top: &str, middle: &str, low: &str) -> Result<Tree, Allo
 }
 
 /// Whether the ranges of all nodes are without fault, so that addresses of `/b/e` can be translated.
-fn are_whole(alloc: Global, tree: &Tree) -> bool
+pub fn are_whole(alloc: Global, tree: &Tree) -> bool
     ensures { result ≡ true → AreWhole tree.now.nodes (ancestors tree.now.nodes 2) }
 {
     tree.is_well_formed();
