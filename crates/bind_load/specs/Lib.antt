@@ -1,8 +1,8 @@
 pub mod FileMaps
 pub mod Forms
+pub mod Inner
 pub mod Loaded
 pub mod RecordData
 pub mod RecordOf
 pub mod RecordSeen
 pub mod Rules
-pub mod Seen

@@ -4,7 +4,7 @@ ghost use Rattle.std.specs.Prelude.{◌≡◌, IfOk, [], ◌∷◌, map};
 ghost use Rattle.std.specs.Option.{option_map, option_map_or};
 ghost use Rattle.std.specs.List.{flat_map};
 ghost use Rattle.edt_base.specs.YamlData.{value_of, a_map, pair_list, item_list};
-ghost use Rattle.bind_load.specs.Seen.{pairs_of, items_of, level_data, levels_from};
+ghost use Rattle.bind_load.specs.Inner.Seen.{pairs_of, items_of, level_data, levels_from};
 ghost use Rattle.bind_load.specs.FileMaps.{levels, levels_below, properties_of, includes_of};
 ghost use Rattle.bind_load.specs.RecordOf.{record_in, level_in, include_in, prop_in, spec_in};
 ghost use Rattle.bind_load.specs.RecordOf.{cells_in, filter_level, no_filter};

@@ -4,7 +4,7 @@ ghost use Rattle.std.specs.Prelude.{◌≡◌, ◌++◌, IfOk, OnOk, map, [], �
 ghost use Rattle.std.specs.Option.{option_map};
 ghost use Rattle.std.specs.List.{flat_map};
 ghost use Rattle.edt_base.specs.YamlData.{value_of, a_map, entry_of, pair_list, item_list};
-ghost use Rattle.bind_load.specs.Seen.{pairs_of, items_of, map_data, level_data, levels_from};
+ghost use Rattle.bind_load.specs.Inner.Seen.{pairs_of, items_of, map_data, level_data, levels_from};
 ghost use Rattle.bind_load.specs.FileMaps.{levels, levels_below, level_maps, file_maps};
 ghost use Rattle.bind_load.specs.FileMaps.{settings_map, include_maps, filter_map, properties_of};
 ghost use Rattle.bind_load.specs.FileMaps.{includes_of, items_in};

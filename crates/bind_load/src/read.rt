@@ -4,7 +4,7 @@ ghost use Rattle.std.specs.Prelude.{◌≡◌, ◌++◌, IfOk, OnOk, map};
 ghost use Rattle.std.specs.Option.{option_map};
 ghost use Rattle.std.specs.List.{flat_map};
 ghost use Rattle.edt_base.specs.YamlData.{value_of, entry_of, item_list};
-ghost use Rattle.bind_load.specs.Seen.{pairs_of, items_of};
+ghost use Rattle.bind_load.specs.Inner.Seen.{pairs_of, items_of};
 ghost use Rattle.bind_load.specs.RecordOf.{text_in, truth_in, type_in, description_in, texts_in};
 ghost use Rattle.bind_load.specs.RecordOf.{text_or_texts_in, list_in, one_text, read_at};
 

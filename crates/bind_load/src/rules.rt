@@ -3,7 +3,7 @@
 ghost use Rattle.std.specs.Prelude.{◌≡◌, ◌||◌, ◌&&◌, IfOk, map, not, is_some, is_none};
 ghost use Rattle.std.specs.List.{list_any};
 ghost use Rattle.edt_base.specs.YamlData.{value_of};
-ghost use Rattle.bind_load.specs.Seen.{map_data};
+ghost use Rattle.bind_load.specs.Inner.Seen.{map_data};
 ghost use Rattle.bind_load.specs.Rules.{has_unknown_key, has_wrong_form, has_both_lists};
 ghost use Rattle.bind_load.specs.Rules.{has_bad_cells, lacks_name, rule_of_maps, broken_rule};
 ghost use Rattle.bind_load.specs.Rules.{has_other_form};

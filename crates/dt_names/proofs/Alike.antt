@@ -5,8 +5,8 @@ use Rattle.std.proofs.lemmas.Bool.{cases_Bool}
 use Rattle.std.proofs.lemmas.List.{take-append-drop}
 use Rattle.edt_base.specs.BoundData.{BoundData}
 use Rattle.dt_names.specs.Facts.{FactData, facts, full_name}
-use Rattle.dt_names.specs.Alike.{NamesHaveTexts}
-use Rattle.dt_names.specs.Keys.{NameTexts, texts_of, behind_prop, is_of_prop}
+use Rattle.dt_names.specs.Inner.Alike.{NamesHaveTexts}
+use Rattle.dt_names.specs.Inner.Keys.{NameTexts, texts_of, behind_prop, is_of_prop}
 use Rattle.dt_names.specs.Pieces.{PieceData, spells}
 use Rattle.dt_names.proofs.Cut.{parts_texts}
 use Rattle.dt_names.proofs.Lengths.{spells-append, none_spelled}

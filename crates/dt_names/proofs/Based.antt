@@ -15,7 +15,7 @@ use Rattle.edt_base.specs.declared.bound.Range.{Range}
 use Rattle.edt_base.specs.declared.bound.Reg.{Reg}
 use Rattle.dt_names.specs.Facts.{FactData, each, there, id_pieces, id_at, plain, path_facts, child_rows, child_facts, order_facts, marked, match_facts, reg_lines, reg_facts, range_facts, cell_facts, irq_lines, irq_facts, entry_facts, of_prop, choice_lines, at_index, item_rows, item_facts, pha_lines, pha_facts, Element, an_item, a_node, an_entry, elem_lines, elem_choices, elements, counted, value_body, choice_of, child_place, count_facts, shown_facts, prop_facts, is_shown, link, label_facts, chosen_facts, place_fact, okay_facts, inst_facts, tree_facts, titled}
 use Rattle.dt_names.specs.Pieces.{PieceData, lit, form, num}
-use Rattle.dt_names.specs.Sections.{AreBased, head_facts, head_section, tree_section}
+use Rattle.dt_names.specs.Inner.Sections.{AreBased, head_facts, head_section, tree_section}
 use Rattle.dt_names.proofs.Table.{Hold, both_hold, each_hold, flat_hold, map_hold, there_hold, maybe_hold}
 
 abbrev pub IsBased : List PieceData → FactData → Type 0

@@ -4,7 +4,7 @@ use Rattle.std.specs.Str.{bytes_eq}
 use Rattle.std.proofs.lemmas.Bool.{cases_Bool, and_parts, and_from, not-true}
 use Rattle.edt_base.specs.Forms.{form_of}
 use Rattle.dt_names.specs.Facts.{name_first, name_pieces, names_pieces, id_pieces}
-use Rattle.dt_names.specs.Keys.{NameTexts, behind_prop, is_of_prop}
+use Rattle.dt_names.specs.Inner.Keys.{NameTexts, behind_prop, is_of_prop}
 use Rattle.dt_names.specs.Names.{NamePart, marker, word, behind_marker, name_parts}
 use Rattle.dt_names.specs.Pieces.{PieceData, lit, form, str, num, spell, spells}
 use Rattle.dt_names.proofs.Lengths.{none_spelled, one_spelled}

@@ -3,7 +3,7 @@ use Rattle.std.proofs.Common.{◌≡◌, ℕ, zero, ◌+◌, ◌^◌, ◌<◌, s
 use Rattle.std.proofs.Math.Seq.{drop-cons}
 use Rattle.std.proofs.lemmas.Option.{slice_get_within, get_or_from_slice_get}
 use Rattle.edt_base.specs.NodeData.{NodeData}
-use Rattle.dt_names.specs.Standing.{StandsAt}
+use Rattle.dt_names.specs.Inner.Standing.{StandsAt}
 
 -- where an element stands, it and what is behind it
 pub drop_at : {A : Type 0} (xs : List A) (i : ℕ) (x : A) → slice_get xs i ≡ Some x → drop i xs ≡ x ∷ drop (i + 1) xs

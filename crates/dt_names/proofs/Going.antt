@@ -13,9 +13,9 @@ use Rattle.edt_base.specs.NodeData.{NodeData}
 use Rattle.edt_base.specs.PropData.{PropData}
 use Rattle.edt_base.specs.declared.bound.Reg.{Reg}
 use Rattle.dt_names.specs.Facts.{FactData, each, there, id_at, plain, path_facts, child_facts, order_facts, marked, match_facts, reg_lines, reg_facts, range_facts, cell_facts, irq_lines, irq_facts, entry_facts, of_prop, choice_lines, at_index, item_rows, item_facts, pha_lines, pha_facts, yes, Element, an_item, a_node, an_entry, node_lines, elem_lines, elem_choices, elements, counted, value_body, choice_of, child_place, count_facts, shown_facts, prop_facts, is_shown, link, label_facts, chosen_facts, place_fact, okay_facts, inst_facts, tree_facts, titled}
-use Rattle.dt_names.specs.Keys.{GoOn, GoOnFrom, behind_prop, texts_of}
+use Rattle.dt_names.specs.Inner.Keys.{GoOn, GoOnFrom, behind_prop, texts_of}
 use Rattle.dt_names.specs.Pieces.{PieceData, lit, form, num, spells}
-use Rattle.dt_names.specs.Sections.{head_facts, head_section, tree_section}
+use Rattle.dt_names.specs.Inner.Sections.{head_facts, head_section, tree_section}
 use Rattle.dt_names.proofs.Table.{Hold, both_hold, each_hold, flat_hold, map_hold, there_hold, maybe_hold}
 
 -- ---- lists of definitions

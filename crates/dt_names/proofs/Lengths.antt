@@ -5,7 +5,7 @@ use Rattle.std.proofs.lemmas.List.Concat.{flat_map-append}
 use Rattle.edt_base.specs.Forms.{form_of, form_char}
 use Rattle.edt_base.specs.Ids.{begins_name, id_rest, id_text}
 use Rattle.dt_names.specs.Facts.{name_first, name_pieces, names_pieces, id_pieces}
-use Rattle.dt_names.specs.Lengths.{spelled_size}
+use Rattle.dt_names.specs.Inner.Lengths.{spelled_size}
 use Rattle.dt_names.specs.Pieces.{PieceData, spell, spells}
 
 -- pieces behind others are spelled behind them

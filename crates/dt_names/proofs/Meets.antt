@@ -6,7 +6,7 @@ use Rattle.std.proofs.lemmas.Bool.{and_parts, not-true}
 use Rattle.std.proofs.lemmas.Option.{slice_get_within, slice_get-get_or}
 use Rattle.indexmap.specs.IndexSet.{insert_key}
 use Rattle.dt_names.specs.Clash.{SaidData}
-use Rattle.dt_names.specs.Firsts.{IsNew}
+use Rattle.dt_names.specs.Inner.Firsts.{IsNew}
 use Rattle.dt_names.specs.declared.key.Key.{Key}
 use Rattle.dt_names.proofs.Scan.{any_some, get_within, key_same}
 

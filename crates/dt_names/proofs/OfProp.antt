@@ -7,7 +7,7 @@ use Rattle.edt_base.specs.EntryData.{EntryData}
 use Rattle.edt_base.specs.NodeData.{NodeData}
 use Rattle.edt_base.specs.PropData.{PropData}
 use Rattle.dt_names.specs.Facts.{FactData, each, there, plain, cell_facts, of_prop, choice_lines, at_index, item_rows, item_facts, pha_lines, pha_facts, Element, an_item, a_node, an_entry, elem_lines, elem_choices, elements, counted, value_body, choice_of, count_facts, shown_facts, prop_facts, is_shown}
-use Rattle.dt_names.specs.Keys.{AreOfProp, PropertiesNameThem}
+use Rattle.dt_names.specs.Inner.Keys.{AreOfProp, PropertiesNameThem}
 use Rattle.dt_names.specs.Pieces.{PieceData, lit, form, num}
 use Rattle.dt_names.proofs.Table.{Hold, both_hold, each_hold, flat_hold, there_hold, maybe_hold}
 

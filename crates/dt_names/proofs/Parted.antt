@@ -6,7 +6,7 @@ use Rattle.edt_base.specs.BoundNodeData.{BoundNodeData}
 use Rattle.edt_base.specs.Ords.{ords_at}
 use Rattle.edt_base.specs.NodeData.{NodeData}
 use Rattle.dt_names.specs.Facts.{FactData, path_facts, child_facts, order_facts, match_facts, entry_facts, prop_facts, node_facts, titled}
-use Rattle.dt_names.specs.Sections.{head_facts}
+use Rattle.dt_names.specs.Inner.Sections.{head_facts}
 
 five_parts : (a b c d e f : List FactData) → (a ++ (b ++ (c ++ (d ++ e)))) ++ f ≡ a ++ (b ++ (c ++ (d ++ (e ++ f))))
 five_parts a b c d e f = simp append_assoc

@@ -8,7 +8,7 @@ use Rattle.std.proofs.lemmas.Bool.Decides.{nat_tests}
 use Rattle.std.proofs.lemmas.Grind.{common_steps}
 use Rattle.edt_base.specs.NodeData.{NodeData, holds_number}
 use Rattle.edt_base.specs.TreeData.{TreeData, IsWellFormed, children_from}
-use Rattle.dt_names.specs.Rising.{IsRisingFrom}
+use Rattle.dt_names.specs.Inner.Rising.{IsRisingFrom}
 
 lower : (least more : ℕ) (xs : List ℕ) → least ≤ more → IsRisingFrom more xs → IsRisingFrom least xs
 lower least more [] le r = tt

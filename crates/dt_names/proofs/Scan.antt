@@ -10,10 +10,10 @@ use Rattle.std.proofs.lemmas.List.Elements.{Contains-append_left, Contains-appen
 use Rattle.std.proofs.lemmas.Slice.Eq.{bytes_eq-Decides}
 use Rattle.dt_names.specs.Clash.{SaidData, said, same_said, same_params, share_name, agree, clashes, is_repeated, AreFree, IsClash, AreDoubles, doubles_from}
 use Rattle.dt_names.specs.Facts.{FactData, full_name}
-use Rattle.dt_names.specs.Firsts.{IsNew}
-use Rattle.dt_names.specs.Keys.{NameTexts, Tells, AreDistinct, Keeps, texts_of}
+use Rattle.dt_names.specs.Inner.Firsts.{IsNew}
+use Rattle.dt_names.specs.Inner.Keys.{NameTexts, Tells, AreDistinct, Keeps, texts_of}
 use Rattle.dt_names.specs.Pieces.{spells}
-use Rattle.dt_names.specs.Scanned.{IsScanned}
+use Rattle.dt_names.specs.Inner.Scanned.{IsScanned}
 use Rattle.dt_names.specs.declared.key.Key.{Key}
 use Rattle.dt_names.specs.declared.piece.Params.{Params}
 use Rattle.dt_names.specs.declared.piece.Params.TheVariants.{Plain, Fn, FnSep, FnVargs}

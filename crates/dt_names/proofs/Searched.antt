@@ -3,9 +3,9 @@ use Rattle.std.proofs.Common.{◌≡◌, ◌+◌, ◌++◌, ℕ, List, [], ◌�
 use Rattle.edt_base.specs.BoundData.{BoundData}
 use Rattle.dt_names.specs.Clash.{SaidData, said, same_said, IsClash}
 use Rattle.dt_names.specs.Facts.{FactData, facts}
-use Rattle.dt_names.specs.Firsts.{HasMet}
-use Rattle.dt_names.specs.Kept.{LabelsData, IsLabelled}
-use Rattle.dt_names.specs.Scanned.{IsScanned}
+use Rattle.dt_names.specs.Inner.Firsts.{HasMet}
+use Rattle.dt_names.specs.Inner.Kept.{LabelsData, IsLabelled}
+use Rattle.dt_names.specs.Inner.Scanned.{IsScanned}
 use Rattle.dt_names.specs.declared.firsts.Met.TheVariants as met
 use Rattle.dt_names.specs.declared.key.Key.{Key}
 use Rattle.dt_names.proofs.Alike.{parts_told, texts_spell}

@@ -8,7 +8,7 @@ use Rattle.edt_base.specs.BoundData.{BoundData}
 use Rattle.edt_base.specs.BoundNodeData.{BoundNodeData}
 use Rattle.edt_base.specs.NodeData.{NodeData}
 use Rattle.dt_names.specs.Facts.{FactData, each, prop_facts, node_facts, titled, titled_node, facts}
-use Rattle.dt_names.specs.Sections.{head_facts, node_sections, tree_section, sections, joined}
+use Rattle.dt_names.specs.Inner.Sections.{head_facts, node_sections, tree_section, sections, joined}
 use Rattle.dt_names.proofs.Parted.{node_parts}
 
 joined-append : (a b : List (List FactData)) → joined (a ++ b) ≡ joined a ++ joined b

@@ -5,9 +5,9 @@ use Rattle.edt_base.specs.Nodes.{path_at}
 use Rattle.edt_base.specs.NodeData.{NodeData}
 use Rattle.edt_base.specs.PropData.{PropData}
 use Rattle.dt_names.specs.Facts.{FactData, each, id_at, prop_facts}
-use Rattle.dt_names.specs.Parts.{IsSplit, node_base, props_left, props_of}
-use Rattle.dt_names.specs.Sections.{head_section, node_sections, props_at, tree_section}
-use Rattle.dt_names.specs.Standing.{StandsAt}
+use Rattle.dt_names.specs.Inner.Parts.{IsSplit, node_base, props_left, props_of}
+use Rattle.dt_names.specs.Inner.Sections.{head_section, node_sections, props_at, tree_section}
+use Rattle.dt_names.specs.Inner.Standing.{StandsAt}
 use Rattle.dt_names.specs.declared.sections.NodeLeft.{NodeLeft}
 
 -- no property is left

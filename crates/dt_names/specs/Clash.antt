@@ -59,7 +59,8 @@ pub record IsClash (fs : List FactData) (node : ℕ) : Type 0 where
 -- the places of those that have an earlier one's name, the first at this place
 abbrev pub doubles_from : (earlier : List FactData) → (place : ℕ) → List FactData → List ℕ
 doubles_from earlier place [] = []
-doubles_from earlier place (f ∷ fs) = (if is_repeated earlier f then place ∷ [] else []) ++ doubles_from (earlier ++ f ∷ []) (place + 1) fs
+doubles_from earlier place (f ∷ fs) = (if is_repeated earlier f then place ∷ [] else [])
+    ++ doubles_from (earlier ++ f ∷ []) (place + 1) fs
 
 -- none clashes, and these are the places of all that repeat an earlier one
 abbrev pub AreDoubles : List FactData → List ℕ → Type 0

@@ -20,7 +20,9 @@ use Rattle.dt_names.specs.Pieces.{PieceData, lit, form, str, num}
 use Rattle.dt_names.specs.declared.piece.Params.{Params}
 use Rattle.dt_names.specs.declared.piece.Params.TheVariants as params
 
--- a definition: the node that it belongs to, the comment that stands before it (of the first of a node and of the first of the tree), whether it goes on about the entry that the one before it is on, its name, its parameters and its body; a node's begins its name with the node's id, one of the tree has no id
+-- a definition: the node that it belongs to, the comment that stands before it (of the first of a node and of the first
+-- of the tree), whether it goes on about the entry that the one before it is on, its name, its parameters and its body;
+-- a node's begins its name with the node's id, one of the tree has no id
 pub record FactData : Type 0 where
   pub owner : ℕ
   pub heading : Option (List ℕ)
@@ -108,11 +110,13 @@ visits ps (t ∷ ts) = visit ps t ++ flat_map (λ u. lit (between ps) ∷ visit 
 
 -- a definition of the tree, which belongs to a node
 abbrev pub fact : ℕ → List PieceData → Params → List PieceData → FactData
-fact owner name ps body = record { owner = owner; heading = None; goes_on = false; base = []; rest = name; params = ps; body = body }
+fact owner name ps body =
+    record { owner = owner; heading = None; goes_on = false; base = []; rest = name; params = ps; body = body }
 
 -- a definition of the node n of a path: the id, and what follows it
 abbrev pub of_node : ℕ → List ℕ → List PieceData → Params → List PieceData → FactData
-of_node n path after ps body = record { owner = n; heading = None; goes_on = false; base = id_pieces path; rest = after; params = ps; body = body }
+of_node n path after ps body =
+    record { owner = n; heading = None; goes_on = false; base = id_pieces path; rest = after; params = ps; body = body }
 
 -- one without parameters
 abbrev pub plain : ℕ → List ℕ → List PieceData → List PieceData → FactData
@@ -136,7 +140,8 @@ path_facts nodes n x =
     plain n x.path (lit (codes "_PATH") ∷ []) (str x.path ∷ [])
     ∷ plain n x.path (lit (codes "_FULL_NAME") ∷ []) (str x.name ∷ [])
     ∷ (there (option_map (λ up. plain n x.path (lit (codes "_PARENT") ∷ []) (id_at nodes up)) x.parent)
-    ++ there (option_map (λ up. plain n x.path (lit (codes "_CHILD_IDX") ∷ []) (num (child_place nodes up n) ∷ [])) x.parent))
+    ++ there (option_map
+    (λ up. plain n x.path (lit (codes "_CHILD_IDX") ∷ []) (num (child_place nodes up n) ∷ [])) x.parent))
 
 -- 3 and 4: the children
 abbrev pub child_rows : List NodeData → ℕ → List ℕ → List ℕ → List FactData
@@ -228,7 +233,9 @@ is_compound _ = false
 
 -- the property makes definitions
 abbrev pub is_shown : PropData → Bool
-is_shown p = not (starts_with nat_eq p.name (codes "#")) && not (ends_with nat_eq p.name (codes "-map")) && not (is_compound p.ty)
+is_shown p =
+    not (starts_with nat_eq p.name (codes "#")) && not (ends_with nat_eq p.name (codes "-map")) && not
+    (is_compound p.ty)
 
 abbrev pub of_prop : List ℕ → List PieceData → List PieceData
 of_prop name after = lit (codes "_P_") ∷ form name ∷ after
@@ -262,7 +269,8 @@ at_index name i = of_prop name (lit (codes "_IDX_") ∷ num i ∷ [])
 
 -- an element that is a number or a string
 abbrev pub item_rows : ℕ → List ℕ → List PieceData → PieceData → List FactData
-item_rows n path at item = plain n path (at ++ []) (item ∷ []) ∷ plain n path (at ++ lit (codes "_EXISTS") ∷ []) yes ∷ []
+item_rows n path at item = plain n path (at ++ []) (item ∷ []) ∷ plain n path (at
+    ++ lit (codes "_EXISTS") ∷ []) yes ∷ []
 
 -- an element on which `enum` may be tested
 abbrev pub item_facts : ℕ → List ℕ → List ℕ → List (ℕ × List ℕ) → ℕ → PieceData → List FactData
@@ -338,7 +346,8 @@ elem_count _ _ = None
 
 -- the properties whose elements are counted otherwise
 abbrev pub is_uncounted : List ℕ → Bool
-is_uncounted name = bytes_eq name (codes "reg") || bytes_eq name (codes "interrupts") || bytes_eq name (codes "ranges") || bytes_eq name (codes "dma-ranges")
+is_uncounted name = bytes_eq name (codes "reg") || bytes_eq name (codes "interrupts") || bytes_eq name (codes "ranges")
+    || bytes_eq name (codes "dma-ranges")
 
 -- an element as a walk visits it: the node, the property and the place
 abbrev pub elem_visit : List ℕ → List ℕ → ℕ → List PieceData
@@ -347,13 +356,15 @@ elem_visit path name i = id_pieces path ++ lit (codes ", ") ∷ form name ∷ li
 abbrev pub count_facts : ℕ → List ℕ → List ℕ → ℕ → List FactData
 count_facts n path name count =
     plain n path (of_prop name (lit (codes "_LEN") ∷ [])) (num count ∷ [])
-    ∷ walks n path (of_prop name (lit (codes "_FOREACH_PROP_ELEM") ∷ [])) (map (elem_visit path name) (range_with_len 0 count))
+    ∷ walks n path (of_prop name (lit (codes "_FOREACH_PROP_ELEM") ∷ []))
+    (map (elem_visit path name) (range_with_len 0 count))
 
 -- how many elements are counted
 abbrev pub counted : PropData → Option ℕ
 counted p = if is_uncounted p.name then None else elem_count p.ty p.val
 
--- the definitions of a property that makes some: its value with its choice, its elements, their number with the walks over them, and that the property is there
+-- the definitions of a property that makes some: its value with its choice, its elements, their number with the walks
+-- over them, and that the property is there
 abbrev pub shown_facts : List NodeData → ℕ → List ℕ → PropData → List FactData
 shown_facts nodes n path p =
     there (option_map (λ body. plain n path (of_prop p.name []) body) (value_body nodes p.val))
@@ -392,16 +403,21 @@ chosen_facts nodes (word, id) =
 
 -- an instance by its number
 abbrev pub place_fact : List NodeData → List ℕ → ℕ → ℕ → List FactData
-place_fact nodes compat i id = fact id (lit (codes "DT_N_INST_") ∷ num i ∷ lit (codes "_") ∷ form compat ∷ []) params.Plain (id_at nodes id) ∷ []
+place_fact nodes compat i id =
+    fact id (lit (codes "DT_N_INST_") ∷ num i ∷ lit (codes "_") ∷ form compat ∷ []) params.Plain (id_at nodes id) ∷ []
 
 -- the okay instances of a compatible string, which come first
 abbrev pub okay_facts : List NodeData → ℕ → InstData → List FactData
 okay_facts nodes first i =
     fact first (lit (codes "DT_COMPAT_HAS_OKAY_") ∷ form i.compat ∷ []) params.Plain yes
-    ∷ fact first (lit (codes "DT_N_INST_") ∷ form i.compat ∷ lit (codes "_NUM_OKAY") ∷ []) params.Plain (num i.okay ∷ [])
-    ∷ fact first (lit (codes "DT_FOREACH_OKAY_") ∷ form i.compat ∷ []) params.Fn (visits params.Fn (map (id_at nodes) (take i.okay i.nodes)))
-    ∷ fact first (lit (codes "DT_FOREACH_OKAY_VARGS_") ∷ form i.compat ∷ []) params.FnVargs (visits params.FnVargs (map (id_at nodes) (take i.okay i.nodes)))
-    ∷ fact first (lit (codes "DT_FOREACH_OKAY_INST_") ∷ form i.compat ∷ []) params.Fn (visits params.Fn (map (λ k. num k ∷ []) (range_with_len 0 i.okay)))
+    ∷ fact first (lit (codes "DT_N_INST_") ∷ form i.compat ∷ lit (codes "_NUM_OKAY") ∷ []) params.Plain
+    (num i.okay ∷ [])
+    ∷ fact first (lit (codes "DT_FOREACH_OKAY_") ∷ form i.compat ∷ []) params.Fn
+    (visits params.Fn (map (id_at nodes) (take i.okay i.nodes)))
+    ∷ fact first (lit (codes "DT_FOREACH_OKAY_VARGS_") ∷ form i.compat ∷ []) params.FnVargs
+    (visits params.FnVargs (map (id_at nodes) (take i.okay i.nodes)))
+    ∷ fact first (lit (codes "DT_FOREACH_OKAY_INST_") ∷ form i.compat ∷ []) params.Fn (visits params.Fn (map
+    (λ k. num k ∷ []) (range_with_len 0 i.okay)))
     ∷ []
 
 abbrev pub inst_facts : List NodeData → InstData → List FactData
@@ -412,8 +428,10 @@ inst_facts nodes i =
 -- walks over all nodes
 abbrev pub helper_facts : List NodeData → List FactData
 helper_facts nodes =
-    fact 0 (lit (codes "DT_FOREACH_HELPER") ∷ []) params.Fn (visits params.Fn (map (id_at nodes) (range_with_len 0 (length nodes))))
-    ∷ fact 0 (lit (codes "DT_FOREACH_OKAY_HELPER") ∷ []) params.Fn (visits params.Fn (map (id_at nodes) (okay_of nodes (range_with_len 0 (length nodes)))))
+    fact 0 (lit (codes "DT_FOREACH_HELPER") ∷ []) params.Fn
+    (visits params.Fn (map (id_at nodes) (range_with_len 0 (length nodes))))
+    ∷ fact 0 (lit (codes "DT_FOREACH_OKAY_HELPER") ∷ []) params.Fn
+    (visits params.Fn (map (id_at nodes) (okay_of nodes (range_with_len 0 (length nodes)))))
     ∷ []
 
 abbrev pub tree_facts : BoundData → List FactData

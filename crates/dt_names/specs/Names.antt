@@ -25,6 +25,8 @@ name_parts (form t ∷ ps) = word (form_of t) ∷ name_parts ps
 name_parts (str t ∷ ps) = word (quoted t) ∷ name_parts ps
 name_parts (num n ∷ ps) = word (decimal n) ∷ name_parts ps
 
--- the names of two definitions, of one bound tree or of two, are spelled alike only where their markers, words and numbers are the same
+-- the names of two definitions, of one bound tree or of two, are spelled alike only where their markers, words and
+-- numbers are the same
 abbrev pub NamesAreTold : Type 0
-NamesAreTold = (b c : BoundData) (f g : FactData) → Contains (facts b) f → Contains (facts c) g → spells (full_name f) ≡ spells (full_name g) → name_parts (full_name f) ≡ name_parts (full_name g)
+NamesAreTold = (b c : BoundData) (f g : FactData) → Contains (facts b) f → Contains (facts c) g → spells (full_name f)
+    ≡ spells (full_name g) → name_parts (full_name f) ≡ name_parts (full_name g)

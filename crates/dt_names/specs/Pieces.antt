@@ -14,7 +14,8 @@ pub data PieceData : Type 0 where
   -- a number, in decimal
   num : ℕ → PieceData
 
--- a byte of a string: `"` and `\` with a backslash before them, and those outside 32 to 126 as a backslash and three octal digits
+-- a byte of a string: `"` and `\` with a backslash before them, and those outside 32 to 126 as a backslash and three
+-- octal digits
 abbrev pub escaped : ℕ → List ℕ
 escaped c =
     if (c == 34) || (c == 92) then 92 ∷ c ∷ [] else

@@ -7,7 +7,7 @@ ghost use Rattle.std.specs.Option.{option_map_or};
 ghost use Rattle.edt_base.specs.Nodes.{path_at};
 ghost use Rattle.dt_names.specs.Facts.{cell_facts, irq_lines, irq_facts, pha_lines, pha_facts};
 ghost use Rattle.dt_names.specs.Pieces.{lit, form};
-ghost use Rattle.dt_names.specs.Rows.{at_pieces};
+ghost use Rattle.dt_names.specs.Inner.Rows.{at_pieces};
 
 use crate::fact::{Fact, Single};
 use crate::row::{At, Body, Ending};
@@ -32,13 +32,15 @@ impl<'a> Model for CellRows<'a> {
     ghost use Rattle.std.specs.List.{flat_map};
     ghost use Rattle.edt_base.specs.Nodes.{path_at};
     ghost use Rattle.dt_names.specs.Facts.{FactData, cell_facts};
-    ghost use Rattle.dt_names.specs.Rows.{at_pieces};
+    ghost use Rattle.dt_names.specs.Inner.Rows.{at_pieces};
 
     ghost Value = { List FactData };
 
     ghost view = { λ s. s.exists
-        ++ (flat_map (cell_facts s.owner (path_at s.bound.now.tree.nodes s.owner) (at_pieces s.at)) s.narrow.now
-        ++ flat_map (cell_facts s.owner (path_at s.bound.now.tree.nodes s.owner) (at_pieces s.at)) s.wide.now) };
+        ++ (flat_map (cell_facts s.owner (path_at s.bound.now.tree.nodes s.owner) (at_pieces s.at))
+        s.narrow.now
+        ++ flat_map (cell_facts s.owner (path_at s.bound.now.tree.nodes s.owner) (at_pieces s.at))
+        s.wide.now) };
 }
 
 impl<'a> CellRows<'a> {
@@ -58,7 +60,9 @@ impl<'a> CellRows<'a> {
 
     /// Of an entry's cells.
     fn narrow(bound: &'a Bound, n: u32, at: At<'a>, cells: &'a [(Text, u32)]) -> CellRows<'a>
-        ensures { result ≡ flat_map (cell_facts n (path_at bound.now.tree.nodes n) (at_pieces at.entry)) cells.now }
+        ensures { result
+            ≡ flat_map (cell_facts n (path_at bound.now.tree.nodes n) (at_pieces at.entry))
+            cells.now }
     {
         CellRows {
             bound,
@@ -72,7 +76,9 @@ impl<'a> CellRows<'a> {
 
     /// Of an interrupt's cells.
     fn wide(bound: &'a Bound, n: u32, at: At<'a>, cells: &'a [(Text, u64)]) -> CellRows<'a>
-        ensures { result ≡ flat_map (cell_facts n (path_at bound.now.tree.nodes n) (at_pieces at.entry)) cells.now }
+        ensures { result
+            ≡ flat_map (cell_facts n (path_at bound.now.tree.nodes n) (at_pieces at.entry))
+            cells.now }
     {
         CellRows {
             bound,
@@ -86,7 +92,8 @@ impl<'a> CellRows<'a> {
 
     /// Puts the next definition into `fact`; false exactly where none is left.
     fn next(&mut self, fact: &mut Fact<'a>) -> bool
-        ensures { MatchBool result (self.old ≡ fact.new ∷ self.new) ((self.old ≡ []) × (self.new ≡ [])) }
+        ensures { MatchBool result (self.old ≡ fact.new ∷ self.new) ((self.old ≡ [])
+            × (self.new ≡ [])) }
     {
         if self.exists.next(fact) {
             return true;
@@ -165,7 +172,8 @@ impl<'a> EntryLines<'a> {
 
     /// Of an interrupt.
     fn of_irq(bound: &'a Bound, n: u32, at: At<'a>, irq: &'a Irq) -> EntryLines<'a>
-        ensures { result ≡ irq_lines n (path_at bound.now.tree.nodes n) (at_pieces at.entry) irq.now }
+        ensures { result
+            ≡ irq_lines n (path_at bound.now.tree.nodes n) (at_pieces at.entry) irq.now }
     {
         EntryLines {
             exists: Single::new(bound, Some(number(n, at, Ending::Mark("_EXISTS"), 1))),
@@ -176,7 +184,9 @@ impl<'a> EntryLines<'a> {
 
     /// Of an entry of a phandle-array.
     fn of_entry(bound: &'a Bound, n: u32, at: At<'a>, entry: &'a Entry) -> EntryLines<'a>
-        ensures { result ≡ pha_lines bound.now.tree.nodes n (path_at bound.now.tree.nodes n) (at_pieces at.entry) entry.now }
+        ensures { result
+            ≡ pha_lines bound.now.tree.nodes n (path_at bound.now.tree.nodes n)
+            (at_pieces at.entry) entry.now }
     {
         let controller = Body::Id(entry.controller.0 as usize);
         EntryLines {
@@ -188,7 +198,8 @@ impl<'a> EntryLines<'a> {
 
     /// Puts the next definition into `fact`; false exactly where none is left.
     fn next(&mut self, fact: &mut Fact<'a>) -> bool
-        ensures { MatchBool result (self.old ≡ fact.new ∷ self.new) ((self.old ≡ []) × (self.new ≡ [])) }
+        ensures { MatchBool result (self.old ≡ fact.new ∷ self.new) ((self.old ≡ [])
+            × (self.new ≡ [])) }
     {
         if self.exists.next(fact) {
             return true;
@@ -255,7 +266,9 @@ impl<'a> EntryRows<'a> {
         i: usize,
         entry: &'a Entry,
     ) -> EntryRows<'a>
-        ensures { result ≡ pha_facts bound.now.tree.nodes n (path_at bound.now.tree.nodes n) prop.entry.text.now i (Some entry.now) }
+        ensures { result
+            ≡ pha_facts bound.now.tree.nodes n (path_at bound.now.tree.nodes n) prop.entry.text.now
+            i (Some entry.now) }
     {
         let indexed = EntryLines::of_entry(bound, n, At::Elem(prop, i), entry);
         match &entry.name {
@@ -275,7 +288,8 @@ impl<'a> EntryRows<'a> {
 
     /// Puts the next definition into `fact`; false exactly where none is left.
     pub(crate) fn next(&mut self, fact: &mut Fact<'a>) -> bool
-        ensures { MatchBool result (self.old ≡ fact.new ∷ self.new) ((self.old ≡ []) × (self.new ≡ [])) }
+        ensures { MatchBool result (self.old ≡ fact.new ∷ self.new) ((self.old ≡ [])
+            × (self.new ≡ [])) }
     {
         if self.indexed.next(fact) {
             return true;

@@ -4,8 +4,8 @@ ghost use Rattle.std.specs.Prelude.{◌≡◌, [], MatchOption, drop, length, na
 ghost use Rattle.std.specs.List.{filter};
 ghost use Rattle.edt_base.specs.TreeData.{IsWellFormed};
 ghost use Rattle.dt_names.specs.Facts.{child_place};
-ghost use Rattle.dt_names.specs.Standing.{StandsAt};
-ghost use Rattle.dt_names.specs.Rising.{IsRisingFrom};
+ghost use Rattle.dt_names.specs.Inner.Standing.{StandsAt};
+ghost use Rattle.dt_names.specs.Inner.Rising.{IsRisingFrom};
 
 use edt_base::{Bound, NodeId, NodeRec};
 
@@ -43,7 +43,8 @@ pub(crate) fn node_at(bound: &Bound, id: u32) -> Option<&NodeRec>
 
 /// The node at a place, with what is behind it; None exactly where no node is left from there on.
 pub(crate) fn node_from(bound: &Bound, index: u32) -> Option<&NodeRec>
-    ensures { MatchOption result (drop index bound.now.tree.nodes ≡ []) (λ x. StandsAt bound.now.tree.nodes index x.now) }
+    ensures { MatchOption result (drop index bound.now.tree.nodes ≡ [])
+        (λ x. StandsAt bound.now.tree.nodes index x.now) }
 {
     tree_is_well_formed(bound);
     match node_at(bound, index) {

@@ -30,7 +30,8 @@ impl<'a> Model for ChildRows<'a> {
 impl<'a> ChildRows<'a> {
     /// Those of the node n.
     pub(crate) fn new(bound: &'a Bound, n: u32, children: &'a [NodeId]) -> ChildRows<'a>
-        ensures { result ≡ child_rows bound.now.tree.nodes n (path_at bound.now.tree.nodes n) children.now }
+        ensures { result
+            ≡ child_rows bound.now.tree.nodes n (path_at bound.now.tree.nodes n) children.now }
     {
         let okay = bound.tree.okay_count(children) as u128;
         let count = children.len() as u128;
@@ -61,7 +62,8 @@ impl<'a> ChildRows<'a> {
 
     /// Puts the next definition into `fact`; false exactly where none is left.
     pub(crate) fn next(&mut self, fact: &mut Fact<'a>) -> bool
-        ensures { MatchBool result (self.old ≡ fact.new ∷ self.new) ((self.old ≡ []) × (self.new ≡ [])) }
+        ensures { MatchBool result (self.old ≡ fact.new ∷ self.new) ((self.old ≡ [])
+            × (self.new ≡ [])) }
     {
         if self.counts.next(fact) {
             return true;

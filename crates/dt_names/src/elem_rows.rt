@@ -3,11 +3,11 @@
 ghost use Rattle.std.specs.Prelude.{◌≡◌, ◌∷◌, ◌++◌, [], codes, option_map, MatchBool};
 ghost use Rattle.std.specs.Option.{option_map_or};
 ghost use Rattle.edt_base.specs.Nodes.{path_at};
-ghost use Rattle.dt_names.specs.Elems.{element, elements_left};
+ghost use Rattle.dt_names.specs.Inner.Elems.{element, elements_left};
 ghost use Rattle.dt_names.specs.Facts.{choice_lines, each, elem_lines, id_at, item_rows, node_rows, plain};
 ghost use Rattle.dt_names.specs.Pieces.{lit, num};
-ghost use Rattle.dt_names.specs.Rows.{at_pieces};
-ghost use Rattle.dt_names.specs.Words.{piece_of};
+ghost use Rattle.dt_names.specs.Inner.Rows.{at_pieces};
+ghost use Rattle.dt_names.specs.Inner.Words.{piece_of};
 
 use crate::cell_rows::EntryRows;
 use crate::elems::{Elem, Elems, elems_len, next_elem};
@@ -56,7 +56,9 @@ impl<'a> ElemLines<'a> {
         i: usize,
         elem: Elem<'a>,
     ) -> ElemLines<'a>
-        ensures { result ≡ elem_lines bound.now.tree.nodes n (path_at bound.now.tree.nodes n) name.entry.text.now choices.now i (element elem.entry) }
+        ensures { result
+            ≡ elem_lines bound.now.tree.nodes n (path_at bound.now.tree.nodes n)
+            name.entry.text.now choices.now i (element elem.entry) }
     {
         let at = At::Elem(name, i);
         match elem {
@@ -83,8 +85,8 @@ impl<'a> ElemLines<'a> {
         }
     }
 
-    // Puts those of another element in the place of these. Apart from `next`, which needn't hold room for
-    // them.
+    // Puts those of another element in the place of these. Apart from `next`, which needn't hold
+    // room for them.
     #[inline(never)]
     fn begin(
         &mut self,
@@ -95,13 +97,16 @@ impl<'a> ElemLines<'a> {
         i: usize,
         elem: Elem<'a>,
     )
-        ensures { self.new ≡ elem_lines bound.now.tree.nodes n (path_at bound.now.tree.nodes n) name.entry.text.now choices.now i (element elem.entry) }
+        ensures { self.new
+            ≡ elem_lines bound.now.tree.nodes n (path_at bound.now.tree.nodes n)
+            name.entry.text.now choices.now i (element elem.entry) }
     {
         *self = ElemLines::new(bound, n, name, choices, i, elem);
     }
 
     fn next(&mut self, fact: &mut Fact<'a>) -> bool
-        ensures { MatchBool result (self.old ≡ fact.new ∷ self.new) ((self.old ≡ []) × (self.new ≡ [])) }
+        ensures { MatchBool result (self.old ≡ fact.new ∷ self.new) ((self.old ≡ [])
+            × (self.new ≡ [])) }
     {
         if self.value.next(fact) {
             return true;
@@ -115,7 +120,8 @@ impl<'a> ElemLines<'a> {
 
 // An element that is a number or a string.
 fn item_rows<'a>(bound: &'a Bound, n: u32, at: At<'a>, item: Piece<'a>) -> Queue<'a>
-    ensures { result ≡ item_rows n (path_at bound.now.tree.nodes n) (at_pieces at.entry) (piece_of item.entry) }
+    ensures { result
+        ≡ item_rows n (path_at bound.now.tree.nodes n) (at_pieces at.entry) (piece_of item.entry) }
 {
     Queue::four(
         bound,
@@ -128,7 +134,9 @@ fn item_rows<'a>(bound: &'a Bound, n: u32, at: At<'a>, item: Piece<'a>) -> Queue
 
 // An element that is a node.
 fn node_rows<'a>(bound: &'a Bound, n: u32, at: At<'a>, node: usize) -> Queue<'a>
-    ensures { result ≡ node_rows n (path_at bound.now.tree.nodes n) (at_pieces at.entry) (id_at bound.now.tree.nodes node) }
+    ensures { result
+        ≡ node_rows n (path_at bound.now.tree.nodes n) (at_pieces at.entry)
+        (id_at bound.now.tree.nodes node) }
 {
     Queue::four(
         bound,
@@ -141,7 +149,9 @@ fn node_rows<'a>(bound: &'a Bound, n: u32, at: At<'a>, node: usize) -> Queue<'a>
 
 // An entry that names no node.
 fn unspecified<'a>(bound: &'a Bound, n: u32, at: At<'a>) -> Queue<'a>
-    ensures { result ≡ plain n (path_at bound.now.tree.nodes n) (at_pieces at.entry ++ lit (codes "_EXISTS") ∷ []) (num 0 ∷ []) ∷ [] }
+    ensures { result
+        ≡ plain n (path_at bound.now.tree.nodes n)
+        (at_pieces at.entry ++ lit (codes "_EXISTS") ∷ []) (num 0 ∷ []) ∷ [] }
 {
     let exists = number(n, at, Ending::Mark("_EXISTS"), 0);
     Queue::four(bound, Some(exists), None, None, None)
@@ -154,7 +164,9 @@ pub(crate) fn choice_rows<'a>(
     at: At<'a>,
     choice: Option<&'a (u32, Text)>,
 ) -> Queue<'a>
-    ensures { result ≡ option_map_or (choice_lines n (path_at bound.now.tree.nodes n) (at_pieces at.entry)) (option_map (λ c. c.now) choice.entry) [] }
+    ensures { result
+        ≡ option_map_or (choice_lines n (path_at bound.now.tree.nodes n) (at_pieces at.entry))
+        (option_map (λ c. c.now) choice.entry) [] }
 {
     match choice {
         Some(choice) => choice_lines(bound, n, at, choice),
@@ -164,7 +176,8 @@ pub(crate) fn choice_rows<'a>(
 
 // A choice.
 fn choice_lines<'a>(bound: &'a Bound, n: u32, at: At<'a>, choice: &'a (u32, Text)) -> Queue<'a>
-    ensures { result ≡ choice_lines n (path_at bound.now.tree.nodes n) (at_pieces at.entry) choice.now }
+    ensures { result
+        ≡ choice_lines n (path_at bound.now.tree.nodes n) (at_pieces at.entry) choice.now }
 {
     let form = choice.1.as_str().as_bytes();
     Queue::four(
@@ -192,13 +205,14 @@ pub(crate) struct ElemRows<'a> {
 impl<'a> Model for ElemRows<'a> {
     ghost use Rattle.std.specs.Prelude.{◌≡◌, ◌+◌, ◌++◌, List, length};
     ghost use Rattle.edt_base.specs.Nodes.{path_at};
-    ghost use Rattle.dt_names.specs.Elems.{elements_left};
+    ghost use Rattle.dt_names.specs.Inner.Elems.{elements_left};
     ghost use Rattle.dt_names.specs.Facts.{FactData, each, elem_lines};
 
     ghost Value = { List FactData };
 
     ghost view = { λ s. s.lines
-        ++ each (elem_lines s.bound.now.tree.nodes s.owner (path_at s.bound.now.tree.nodes s.owner) s.name.text.now s.choices.now) s.index (elements_left s.elems) };
+        ++ each (elem_lines s.bound.now.tree.nodes s.owner (path_at s.bound.now.tree.nodes s.owner)
+        s.name.text.now s.choices.now) s.index (elements_left s.elems) };
 
     ghost invariant = { λ s. s.index + length (elements_left s.elems) ≡ s.count };
 }
@@ -212,7 +226,9 @@ impl<'a> ElemRows<'a> {
         choices: &'a [(u32, Text)],
         elems: Elems<'a>,
     ) -> ElemRows<'a>
-        ensures { result ≡ each (elem_lines bound.now.tree.nodes n (path_at bound.now.tree.nodes n) name.entry.text.now choices.now) 0 (elements_left elems.entry) }
+        ensures { result
+            ≡ each (elem_lines bound.now.tree.nodes n (path_at bound.now.tree.nodes n)
+            name.entry.text.now choices.now) 0 (elements_left elems.entry) }
     {
         ElemRows {
             bound,
@@ -228,7 +244,8 @@ impl<'a> ElemRows<'a> {
 
     /// Puts the next definition into `fact`; false exactly where none is left.
     pub(crate) fn next(&mut self, fact: &mut Fact<'a>) -> bool
-        ensures { MatchBool result (self.old ≡ fact.new ∷ self.new) ((self.old ≡ []) × (self.new ≡ [])) }
+        ensures { MatchBool result (self.old ≡ fact.new ∷ self.new) ((self.old ≡ [])
+            × (self.new ≡ [])) }
     {
         let count = self.count;
         loop {

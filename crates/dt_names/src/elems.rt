@@ -1,7 +1,7 @@
 //! The elements of a property.
 
 ghost use Rattle.std.specs.Prelude.{◌≡◌, ◌∷◌, [], MatchOption, length};
-ghost use Rattle.dt_names.specs.Elems.{element, elements_left, count_left};
+ghost use Rattle.dt_names.specs.Inner.Elems.{element, elements_left, count_left};
 ghost use Rattle.dt_names.specs.Facts.{elements, elem_count};
 
 use crate::piece::Piece;
@@ -95,7 +95,8 @@ pub(crate) fn elems_len(elems: Elems<'_>) -> usize
 
 /// The next element, and what is left behind it.
 pub(crate) fn next_elem<'a>(elems: Elems<'a>) -> Option<(Elem<'a>, Elems<'a>)>
-    ensures { MatchOption result (elements_left elems.entry ≡ []) (λ r. elements_left elems.entry ≡ element r.0 ∷ elements_left r.1) }
+    ensures { MatchOption result (elements_left elems.entry ≡ [])
+        (λ r. elements_left elems.entry ≡ element r.0 ∷ elements_left r.1) }
 {
     match elems {
         Elems::Nothing => None,

@@ -4,9 +4,9 @@ ghost use Rattle.std.specs.Prelude.{◌≡◌, ◌∷◌, ◌++◌, [], drop, op
 ghost use Rattle.edt_base.specs.Nodes.{path_at};
 ghost use Rattle.dt_names.specs.Clash.{said};
 ghost use Rattle.dt_names.specs.Facts.{full_name};
-ghost use Rattle.dt_names.specs.Keys.{behind_prop, is_of_prop};
-ghost use Rattle.dt_names.specs.Lists.{things_of};
-ghost use Rattle.dt_names.specs.Rows.{body_pieces, fact_of, at_pieces, ending_pieces, tail_pieces, things_at, waiting, with_heading};
+ghost use Rattle.dt_names.specs.Inner.Keys.{behind_prop, is_of_prop};
+ghost use Rattle.dt_names.specs.Inner.Lists.{things_of};
+ghost use Rattle.dt_names.specs.Inner.Rows.{body_pieces, fact_of, at_pieces, ending_pieces, tail_pieces, things_at, waiting, with_heading};
 
 use crate::child_place::node_count;
 use crate::held::Held;
@@ -32,11 +32,14 @@ pub struct Fact<'a> {
 impl<'a> Model for Fact<'a> {
     ghost use Rattle.std.specs.Prelude.{option_map};
     ghost use Rattle.dt_names.specs.Facts.{FactData};
-    ghost use Rattle.dt_names.specs.Rows.{fact_of};
+    ghost use Rattle.dt_names.specs.Inner.Rows.{fact_of};
 
     ghost Value = { FactData };
 
-    ghost view = { λ f. record (fact_of f.bound.now.tree.nodes f.row) { heading = option_map (λ h. h.now) f.heading } };
+    ghost view = { λ f. record (fact_of f.bound.now.tree.nodes f.row) {
+      heading = option_map
+          (λ h. h.now) f.heading;
+    } };
 }
 
 impl<'a> Fact<'a> {
@@ -219,11 +222,12 @@ pub(crate) struct Queue<'a> {
 impl<'a> Model for Queue<'a> {
     ghost use Rattle.std.specs.Prelude.{List, ◌∷◌, []};
     ghost use Rattle.dt_names.specs.Facts.{FactData};
-    ghost use Rattle.dt_names.specs.Rows.{waiting};
+    ghost use Rattle.dt_names.specs.Inner.Rows.{waiting};
 
     ghost Value = { List FactData };
 
-    ghost view = { λ q. waiting q.bound.now.tree.nodes (q.first ∷ q.second ∷ q.third ∷ q.fourth ∷ []) };
+    ghost view = { λ q. waiting q.bound.now.tree.nodes
+        (q.first ∷ q.second ∷ q.third ∷ q.fourth ∷ []) };
 }
 
 impl<'a> Queue<'a> {
@@ -248,7 +252,9 @@ impl<'a> Queue<'a> {
         third: Option<Row<'a>>,
         fourth: Option<Row<'a>>,
     ) -> Queue<'a>
-        ensures { result ≡ waiting bound.now.tree.nodes (first.entry ∷ second.entry ∷ third.entry ∷ fourth.entry ∷ []) }
+        ensures { result
+            ≡ waiting bound.now.tree.nodes
+            (first.entry ∷ second.entry ∷ third.entry ∷ fourth.entry ∷ []) }
     {
         Queue {
             bound,
@@ -261,7 +267,8 @@ impl<'a> Queue<'a> {
 
     /// Puts the next definition into `fact`; false exactly where none is left.
     pub(crate) fn next(&mut self, fact: &mut Fact<'a>) -> bool
-        ensures { MatchBool result (self.old ≡ fact.new ∷ self.new) ((self.old ≡ []) × (self.new ≡ [])) }
+        ensures { MatchBool result (self.old ≡ fact.new ∷ self.new) ((self.old ≡ [])
+            × (self.new ≡ [])) }
     {
         let bound = self.bound;
         if let Some(row) = self.first {
@@ -298,7 +305,7 @@ pub(crate) struct Single<'a> {
 impl<'a> Model for Single<'a> {
     ghost use Rattle.std.specs.Prelude.{List, ◌∷◌, []};
     ghost use Rattle.dt_names.specs.Facts.{FactData};
-    ghost use Rattle.dt_names.specs.Rows.{waiting};
+    ghost use Rattle.dt_names.specs.Inner.Rows.{waiting};
 
     ghost Value = { List FactData };
 
@@ -314,7 +321,8 @@ impl<'a> Single<'a> {
 
     /// Puts the definition into `fact`; false exactly where none is left.
     pub(crate) fn next(&mut self, fact: &mut Fact<'a>) -> bool
-        ensures { MatchBool result (self.old ≡ fact.new ∷ self.new) ((self.old ≡ []) × (self.new ≡ [])) }
+        ensures { MatchBool result (self.old ≡ fact.new ∷ self.new) ((self.old ≡ [])
+            × (self.new ≡ [])) }
     {
         let Some(row) = self.row else {
             return false;

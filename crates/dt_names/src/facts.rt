@@ -25,7 +25,8 @@ impl<'a> Model for NodesRows<'a> {
 
     ghost Value = { List FactData };
 
-    ghost view = { λ s. unwrap_or s.node [] ++ each (titled_node s.bound.now) s.index (drop s.index s.bound.now.tree.nodes) };
+    ghost view = { λ s. unwrap_or s.node [] ++ each (titled_node s.bound.now) s.index
+        (drop s.index s.bound.now.tree.nodes) };
 }
 
 impl<'a> NodesRows<'a> {
@@ -40,7 +41,8 @@ impl<'a> NodesRows<'a> {
     }
 
     fn next(&mut self, fact: &mut Fact<'a>) -> bool
-        ensures { MatchBool result (self.old ≡ fact.new ∷ self.new) ((self.old ≡ []) × (self.new ≡ [])) }
+        ensures { MatchBool result (self.old ≡ fact.new ∷ self.new) ((self.old ≡ [])
+            × (self.new ≡ [])) }
     {
         loop {
             if let Some(node) = &mut self.node {
@@ -57,8 +59,8 @@ impl<'a> NodesRows<'a> {
     }
 }
 
-// Puts the definitions of the node n in the place of others. Apart from `next`, which needn't hold room
-// for them: a function pays for its locals at each call.
+// Puts the definitions of the node n in the place of others. Apart from `next`, which needn't hold
+// room for them: a function pays for its locals at each call.
 #[inline(never)]
 fn begin_node<'a>(rows: &mut Option<TitledNode<'a>>, bound: &'a Bound, n: u32, node: &'a NodeRec)
     requires { path_at bound.now.tree.nodes n ≡ node.now.path }
@@ -67,8 +69,8 @@ fn begin_node<'a>(rows: &mut Option<TitledNode<'a>>, bound: &'a Bound, n: u32, n
     *rows = titled_node(bound, n, node);
 }
 
-/// The definitions of a bound tree that are still to come, in the header's order: those of each node
-/// in preorder, then those of the tree. Contracts see the list of them. Takes no memory.
+/// The definitions of a bound tree that are still to come, in the header's order: those of each
+/// node in preorder, then those of the tree. Contracts see the list of them. Takes no memory.
 #[derive(Drop)]
 pub struct Facts<'a> {
     nodes: NodesRows<'a>,
@@ -97,7 +99,8 @@ impl<'a> Facts<'a> {
 
     /// The next definition; None exactly after the last. Takes no memory.
     pub fn next(&mut self) -> Option<Fact<'a>>
-        ensures { MatchOption result ((self.old ≡ []) × (self.new ≡ [])) (λ x. self.old ≡ x ∷ self.new) }
+        ensures { MatchOption result ((self.old ≡ []) × (self.new ≡ []))
+            (λ x. self.old ≡ x ∷ self.new) }
     {
         let mut fact = Fact::nothing(self.nodes.bound);
         if self.nodes.next(&mut fact) {

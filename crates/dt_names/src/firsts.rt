@@ -1,7 +1,7 @@
 //! What the first definition of each name says.
 
 ghost use Rattle.std.specs.Prelude.{◌≡◌, IfOk, length};
-ghost use Rattle.dt_names.specs.Firsts.{HasMet};
+ghost use Rattle.dt_names.specs.Inner.Firsts.{HasMet};
 
 use crate::held::{Held, same_said};
 use crate::key::Key;
@@ -19,9 +19,9 @@ pub(crate) enum Met {
     Other,
 }
 
-/// Looks up the key of a definition's name, and compares what the definition says with what the first
-/// of its name said, which is held at the key's place. What a new key's definition says is held. The
-/// one error is want of memory.
+/// Looks up the key of a definition's name, and compares what the definition says with what the
+/// first of its name said, which is held at the key's place. What a new key's definition says is
+/// held. The one error is want of memory.
 pub(crate) fn meet<'a>(
     alloc: Global,
     keys: &mut IndexSet<Key>,
@@ -30,7 +30,8 @@ pub(crate) fn meet<'a>(
     said: Held<'a>,
 ) -> Result<Met, AllocError>
     requires { length held.now.items ≡ length keys.now.keys }
-    ensures { IfOk result (λ m. HasMet keys.old.keys keys.new.keys held.old.items held.new.items key said.entry m) }
+    ensures { IfOk result
+        (λ m. HasMet keys.old.keys keys.new.keys held.old.items held.new.items key said.entry m) }
 {
     let (place, added) = keys.insert_full(key)?;
     if added {

@@ -7,9 +7,9 @@ use edt_base::Text;
 use std::alloc::{AllocError, Global};
 
 #[tactic(auto, unfolding(edt_base::specs::Forms::form_of))]
-/// The form of a text, in which names have it: letters in lower case, digits, and `_` for every other
-/// character (Zephyr 3.7, "Devicetree API", "lowercase-and-underscores form"). The one error is want of
-/// memory.
+/// The form of a text, in which names have it: letters in lower case, digits, and `_` for every
+/// other character (Zephyr 3.7, "Devicetree API", "lowercase-and-underscores form"). The one error
+/// is want of memory.
 pub fn form(alloc: Global, t: &Text) -> Result<Text, AllocError>
     ensures { IfOk result (λ f. f ≡ form_of t.now) }
 {

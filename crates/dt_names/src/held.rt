@@ -6,7 +6,7 @@ ghost use Rattle.edt_base.specs.Forms.{form_of};
 ghost use Rattle.dt_names.specs.Clash.{AreSame, same_params, same_said};
 ghost use Rattle.dt_names.specs.Facts.{elem_visit, id_at};
 ghost use Rattle.dt_names.specs.Pieces.{spells};
-ghost use Rattle.dt_names.specs.Rows.{body_pieces, things_at};
+ghost use Rattle.dt_names.specs.Inner.Rows.{body_pieces, things_at};
 
 use crate::fact::body_of;
 use crate::forms::form_char;
@@ -29,11 +29,15 @@ pub(crate) struct Held<'a> {
 
 impl<'a> Model for Held<'a> {
     ghost use Rattle.dt_names.specs.Clash.{SaidData};
-    ghost use Rattle.dt_names.specs.Rows.{body_pieces};
+    ghost use Rattle.dt_names.specs.Inner.Rows.{body_pieces};
 
     ghost Value = { SaidData };
 
-    ghost view = { λ h. record { params = h.params; body = body_pieces h.bound.now.tree.nodes h.owner h.params h.body } };
+    ghost view = { λ h. record {
+      params = h.params;
+      body = body_pieces h.bound.now.tree.nodes h.owner
+          h.params h.body;
+    } };
 }
 
 impl<'a> Held<'a> {
@@ -44,9 +48,9 @@ impl<'a> Held<'a> {
     }
 }
 
-/// Whether two definitions have the same parameters and the same body, as it is spelled. Bodies that
-/// may be long, as walks and ids, are told the same without being spelled. The one error is want of
-/// memory.
+/// Whether two definitions have the same parameters and the same body, as it is spelled. Bodies
+/// that may be long, as walks and ids, are told the same without being spelled. The one error is
+/// want of memory.
 pub(crate) fn same_said(alloc: Global, a: &Held<'_>, b: &Held<'_>) -> Result<bool, AllocError>
     ensures { IfOk result (λ r. r ≡ same_said a.now b.now) }
 {
@@ -88,7 +92,9 @@ fn same_things(
     other: u32,
     second: Things<'_>,
 ) -> bool
-    ensures { result ≡ true → AreSame (things_at a.now.tree.nodes owner first.entry) (things_at b.now.tree.nodes other second.entry) }
+    ensures { result ≡ true
+        → AreSame (things_at a.now.tree.nodes owner first.entry)
+        (things_at b.now.tree.nodes other second.entry) }
 {
     match first {
         Things::Ids(left) => match second {
@@ -113,7 +119,9 @@ fn same_things(
 
 // Elements of two properties are visited alike, as far as the place.
 fn same_elems(path: &[u8], name: &[u8], other: &[u8], twin: &[u8]) -> bool
-    ensures { result ≡ true → (places : List ℕ) → AreSame (map (elem_visit path.now name.now) places) (map (elem_visit other.now twin.now) places) }
+    ensures { result ≡ true → (places : List ℕ)
+        → AreSame (map (elem_visit path.now name.now) places)
+        (map (elem_visit other.now twin.now) places) }
 {
     path == other && same_form(name, twin)
 }
@@ -130,7 +138,8 @@ fn path(bound: &Bound, node: usize) -> &[u8]
 
 // The nodes have the same paths, one after the other.
 fn same_ids(a: &Bound, left: &[NodeId], b: &Bound, right: &[NodeId]) -> bool
-    ensures { result ≡ true → AreSame (map (id_at a.now.tree.nodes) left.now) (map (id_at b.now.tree.nodes) right.now) }
+    ensures { result ≡ true
+        → AreSame (map (id_at a.now.tree.nodes) left.now) (map (id_at b.now.tree.nodes) right.now) }
 {
     let mut first = left;
     let mut second = right;

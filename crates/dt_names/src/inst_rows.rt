@@ -3,7 +3,7 @@
 ghost use Rattle.std.specs.Prelude.{◌≡◌, ◌∷◌, [], length, nat_lt, slice_get, take, unwrap_or, if◌then◌else◌, MatchBool};
 ghost use Rattle.std.specs.List.{flat_map};
 ghost use Rattle.dt_names.specs.Facts.{each, inst_facts, okay_facts, place_fact};
-ghost use Rattle.dt_names.specs.Rows.{okay_walks};
+ghost use Rattle.dt_names.specs.Inner.Rows.{okay_walks};
 
 use crate::fact::{Fact, Queue};
 use crate::piece::{Params, Piece};
@@ -47,7 +47,8 @@ impl<'a> PlaceRows<'a> {
     }
 
     fn next(&mut self, fact: &mut Fact<'a>) -> bool
-        ensures { MatchBool result (self.old ≡ fact.new ∷ self.new) ((self.old ≡ []) × (self.new ≡ [])) }
+        ensures { MatchBool result (self.old ≡ fact.new ∷ self.new) ((self.old ≡ [])
+            × (self.new ≡ [])) }
     {
         let count = self.all.len();
         let Some((id, rest)) = self.rest.split_first() else {
@@ -85,7 +86,8 @@ impl<'a> Model for InstRows<'a> {
 
     ghost Value = { List FactData };
 
-    ghost view = { λ s. unwrap_or s.places [] ++ (s.okay ++ flat_map (inst_facts s.bound.now.tree.nodes) s.rest.now) };
+    ghost view = { λ s. unwrap_or s.places [] ++
+        (s.okay ++ flat_map (inst_facts s.bound.now.tree.nodes) s.rest.now) };
 }
 
 impl<'a> InstRows<'a> {
@@ -103,7 +105,8 @@ impl<'a> InstRows<'a> {
 
     /// Puts the next definition into `fact`; false exactly where none is left.
     pub(crate) fn next(&mut self, fact: &mut Fact<'a>) -> bool
-        ensures { MatchBool result (self.old ≡ fact.new ∷ self.new) ((self.old ≡ []) × (self.new ≡ [])) }
+        ensures { MatchBool result (self.old ≡ fact.new ∷ self.new) ((self.old ≡ [])
+            × (self.new ≡ [])) }
     {
         loop {
             if let Some(places) = &mut self.places {
@@ -152,7 +155,8 @@ impl<'a> OkayRows<'a> {
     }
 
     fn next(&mut self, fact: &mut Fact<'a>) -> bool
-        ensures { MatchBool result (self.old ≡ fact.new ∷ self.new) ((self.old ≡ []) × (self.new ≡ [])) }
+        ensures { MatchBool result (self.old ≡ fact.new ∷ self.new) ((self.old ≡ [])
+            × (self.new ≡ [])) }
     {
         if self.counts.next(fact) {
             return true;
@@ -161,18 +165,22 @@ impl<'a> OkayRows<'a> {
     }
 }
 
-// Puts the definitions of the okay instances of a compatible string in the place of others. Apart from
-// `next`, which needn't hold room for them.
+// Puts the definitions of the okay instances of a compatible string in the place of others. Apart
+// from `next`, which needn't hold room for them.
 #[inline(never)]
 fn begin_okay<'a>(rows: &mut OkayRows<'a>, bound: &'a Bound, inst: &'a Inst)
-    ensures { rows.new ≡ (if nat_lt 0 inst.now.okay then okay_facts bound.now.tree.nodes (unwrap_or (slice_get inst.now.nodes 0) 0) inst.now else []) }
+    ensures { rows.new
+        ≡ (if nat_lt 0 inst.now.okay then okay_facts bound.now.tree.nodes
+        (unwrap_or (slice_get inst.now.nodes 0) 0) inst.now else []) }
 {
     *rows = okay_rows(bound, inst);
 }
 
 // The definitions of the okay instances, where there are some.
 fn okay_rows<'a>(bound: &'a Bound, inst: &'a Inst) -> OkayRows<'a>
-    ensures { result ≡ (if nat_lt 0 inst.now.okay then okay_facts bound.now.tree.nodes (unwrap_or (slice_get inst.now.nodes 0) 0) inst.now else []) }
+    ensures { result
+        ≡ (if nat_lt 0 inst.now.okay then okay_facts bound.now.tree.nodes
+        (unwrap_or (slice_get inst.now.nodes 0) 0) inst.now else []) }
 {
     if inst.okay == 0 {
         return OkayRows::none(bound);

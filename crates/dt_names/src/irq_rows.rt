@@ -4,7 +4,7 @@ ghost use Rattle.std.specs.Prelude.{◌≡◌, ◌∷◌, [], MatchBool};
 ghost use Rattle.edt_base.specs.Nodes.{path_at};
 ghost use Rattle.dt_names.specs.Facts.{each, irq_facts, entry_facts, plain};
 ghost use Rattle.dt_names.specs.Pieces.{lit, num};
-ghost use Rattle.dt_names.specs.Groups.{range_irq_facts};
+ghost use Rattle.dt_names.specs.Inner.Groups.{range_irq_facts};
 
 use crate::cell_rows::EntryRows;
 use crate::fact::{Fact, Single};
@@ -32,7 +32,8 @@ impl<'a> Model for IrqRows<'a> {
 
     ghost Value = { List FactData };
 
-    ghost view = { λ s. s.entry ++ each (irq_facts s.owner (path_at s.bound.now.tree.nodes s.owner)) s.index s.rest.now };
+    ghost view = { λ s. s.entry ++ each
+        (irq_facts s.owner (path_at s.bound.now.tree.nodes s.owner)) s.index s.rest.now };
 
     ghost invariant = { λ s. s.index + length s.rest.now ≡ length s.all.now };
 }
@@ -52,7 +53,8 @@ impl<'a> IrqRows<'a> {
     }
 
     fn next(&mut self, fact: &mut Fact<'a>) -> bool
-        ensures { MatchBool result (self.old ≡ fact.new ∷ self.new) ((self.old ≡ []) × (self.new ≡ [])) }
+        ensures { MatchBool result (self.old ≡ fact.new ∷ self.new) ((self.old ≡ [])
+            × (self.new ≡ [])) }
     {
         if self.entry.next(fact) {
             return true;
@@ -70,8 +72,8 @@ impl<'a> IrqRows<'a> {
     }
 }
 
-// Puts the definitions on an interrupt in the place of others. Apart from `next`, which needn't hold room
-// for them.
+// Puts the definitions on an interrupt in the place of others. Apart from `next`, which needn't
+// hold room for them.
 #[inline(never)]
 fn begin_irq<'a>(rows: &mut EntryRows<'a>, bound: &'a Bound, n: u32, i: usize, irq: &'a Irq)
     ensures { rows.new ≡ irq_facts n (path_at bound.now.tree.nodes n) i irq.now }
@@ -110,7 +112,8 @@ impl<'a> RangeIrqRows<'a> {
     }
 
     fn next(&mut self, fact: &mut Fact<'a>) -> bool
-        ensures { MatchBool result (self.old ≡ fact.new ∷ self.new) ((self.old ≡ []) × (self.new ≡ [])) }
+        ensures { MatchBool result (self.old ≡ fact.new ∷ self.new) ((self.old ≡ [])
+            × (self.new ≡ [])) }
     {
         if self.range_count.next(fact) {
             return true;
@@ -157,7 +160,8 @@ impl<'a> ResourceRows<'a> {
 
     /// Puts the next definition into `fact`; false exactly where none is left.
     pub(crate) fn next(&mut self, fact: &mut Fact<'a>) -> bool
-        ensures { MatchBool result (self.old ≡ fact.new ∷ self.new) ((self.old ≡ []) × (self.new ≡ [])) }
+        ensures { MatchBool result (self.old ≡ fact.new ∷ self.new) ((self.old ≡ [])
+            × (self.new ≡ [])) }
     {
         if self.reg_count.next(fact) {
             return true;
@@ -171,7 +175,8 @@ impl<'a> ResourceRows<'a> {
 
 // How many there are.
 fn count_row<'a>(bound: &'a Bound, n: u32, mark: &'static str, count: usize) -> Single<'a>
-    ensures { result ≡ plain n (path_at bound.now.tree.nodes n) (lit mark.now ∷ []) (num count ∷ []) ∷ [] }
+    ensures { result
+        ≡ plain n (path_at bound.now.tree.nodes n) (lit mark.now ∷ []) (num count ∷ []) ∷ [] }
 {
     Single::new(
         bound,

@@ -2,9 +2,9 @@
 
 ghost use Rattle.std.specs.Prelude.{◌≡◌, ◌∷◌, [], IfOk, IfSome, OnErr, OnOk, MatchBool, MatchOption, Some, List, codes, slice_get, true};
 ghost use Rattle.dt_names.specs.Facts.{facts};
-ghost use Rattle.dt_names.specs.Keys.{AreDistinct, Keeps, Tells, texts_of};
-ghost use Rattle.dt_names.specs.Kept.{HasBase, HasProp, IsLabelled, IsTurned, SharesProp};
-ghost use Rattle.dt_names.specs.Parts.{base_in, sections_left};
+ghost use Rattle.dt_names.specs.Inner.Keys.{AreDistinct, Keeps, Tells, texts_of};
+ghost use Rattle.dt_names.specs.Inner.Kept.{HasBase, HasProp, IsLabelled, IsTurned, SharesProp};
+ghost use Rattle.dt_names.specs.Inner.Parts.{base_in, sections_left};
 ghost use Rattle.dt_names.specs.Pieces.{PieceData, form, lit, spells};
 
 use crate::fact::Fact;
@@ -48,9 +48,9 @@ pub(crate) struct Here<'a> {
 }
 
 /// The definitions of a bound tree that are still to come, with the texts of the names so far. A
-/// node's id, a property's name and an entry's name, which may be long and stand in the names of many
-/// definitions, are spelled and looked up once each. Contracts see the list of definitions and that of
-/// texts.
+/// node's id, a property's name and an entry's name, which may be long and stand in the names of
+/// many definitions, are spelled and looked up once each. Contracts see the list of definitions and
+/// that of texts.
 #[derive(Drop)]
 pub(crate) struct Labels<'a> {
     texts: Texts,
@@ -61,9 +61,9 @@ pub(crate) struct Labels<'a> {
 
 impl<'a> Model for Labels<'a> {
     ghost use Rattle.std.specs.Prelude.{◌++◌};
-    ghost use Rattle.dt_names.specs.Kept.{AreKept, HasEntry, LabelsData};
-    ghost use Rattle.dt_names.specs.Parts.{sections_left};
-    ghost use Rattle.dt_names.specs.Sections.{joined};
+    ghost use Rattle.dt_names.specs.Inner.Kept.{AreKept, HasEntry, LabelsData};
+    ghost use Rattle.dt_names.specs.Inner.Parts.{sections_left};
+    ghost use Rattle.dt_names.specs.Inner.Sections.{joined};
 
     ghost Value = { LabelsData };
 
@@ -95,10 +95,12 @@ impl<'a> Labels<'a> {
         })
     }
 
-    /// The next definition; None exactly after the last. The one error is want of memory, after which
-    /// a definition may be missing.
+    /// The next definition; None exactly after the last. The one error is want of memory, after
+    /// which a definition may be missing.
     pub(crate) fn next(&mut self, alloc: Global) -> Result<Option<Labelled<'a>>, AllocError>
-        ensures { IfOk result (λ o. MatchOption o (self.old.left ≡ []) (λ l. IsLabelled self.old self.new l.fact l.key)) }
+        ensures { IfOk result
+            (λ o. MatchOption o (self.old.left ≡ [])
+            (λ l. IsLabelled self.old self.new l.fact l.key)) }
     {
         let mut fact = Fact::nothing(self.here.rest.bound);
         loop {
@@ -117,13 +119,15 @@ impl<'a> Labels<'a> {
     }
 }
 
-// Goes to the next section, where there is one. Apart from `next`, which needn't hold room for a section: a
-// function pays for its locals at each call. The one error is want of memory, which leaves the walk where it
-// stands.
+// Goes to the next section, where there is one. Apart from `next`, which needn't hold room for a
+// section: a function pays for its locals at each call. The one error is want of memory, which
+// leaves the walk where it stands.
 #[inline(never)]
 fn turn(alloc: Global, texts: &mut Texts, here: &mut Here<'_>) -> Result<bool, AllocError>
     requires { HasBase texts.old here.old }
-    ensures turned { IfOk result (λ more. MatchBool more (IsTurned texts.new here.old here.new) ((sections_left here.old.rest ≡ []) × (here.new ≡ here.old))) }
+    ensures turned { IfOk result
+        (λ more. MatchBool more (IsTurned texts.new here.old here.new)
+        ((sections_left here.old.rest ≡ []) × (here.new ≡ here.old))) }
     ensures stays { OnErr result (here.new ≡ here.old) }
     ensures kept { Keeps texts.old texts.new }
 {
@@ -148,7 +152,9 @@ fn share<'a>(
     behind: Shared<'a>,
 ) -> Result<Shared<'a>, AllocError>
     ensures of { IfOk result (λ r. r.of ≡ of.entry) }
-    ensures base { IfOk result (λ r. (before : List PieceData) → slice_get texts.old behind.entry.base ≡ Some (spells before)
+    ensures base { IfOk result
+        (λ r. (before : List PieceData) → slice_get texts.old behind.entry.base
+        ≡ Some (spells before)
         → slice_get texts.new r.base ≡ Some (spells (base_in before of.entry))) }
     ensures prop { IfOk result (λ r. HasProp texts.new r.prop of.entry) }
     ensures kept { Keeps texts.old texts.new }
@@ -187,7 +193,8 @@ fn key_of(
 ) -> Result<Key, AllocError>
     requires based { slice_get texts.old shared.base ≡ Some (spells fact.now.base) }
     requires own { SharesProp texts.old shared.prop shared.of fact.now }
-    requires known { IfSome entry (λ n. fact.now.goes_on ≡ true → slice_get texts.old n ≡ Some (texts_of fact.now).entry) }
+    requires known { IfSome entry
+        (λ n. fact.now.goes_on ≡ true → slice_get texts.old n ≡ Some (texts_of fact.now).entry) }
     ensures tells { IfOk result (λ k. Tells texts.new k (texts_of fact.now)) }
     ensures kept { Keeps texts.old texts.new }
     ensures distinct { OnOk result (AreDistinct texts.new) }
@@ -204,8 +211,8 @@ fn key_of(
 }
 
 #[tactic(auto, using(crate::proofs::Parts::prop_part))]
-// The number of the text of the property that a definition's name speaks of, which is known where the
-// definition stands among those on a property.
+// The number of the text of the property that a definition's name speaks of, which is known where
+// the definition stands among those on a property.
 fn prop_number(
     alloc: Global,
     texts: &mut Texts,
@@ -223,15 +230,16 @@ fn prop_number(
     texts.number(spelled(alloc, fact.prop())?)
 }
 
-// The number of the text that tells the entry that a definition is on, which is known where the definition
-// goes on about it.
+// The number of the text that tells the entry that a definition is on, which is known where the
+// definition goes on about it.
 fn entry_number(
     alloc: Global,
     texts: &mut Texts,
     fact: &Fact<'_>,
     known: Option<usize>,
 ) -> Result<usize, AllocError>
-    requires { IfSome known (λ n. fact.now.goes_on ≡ true → slice_get texts.old n ≡ Some (texts_of fact.now).entry) }
+    requires { IfSome known
+        (λ n. fact.now.goes_on ≡ true → slice_get texts.old n ≡ Some (texts_of fact.now).entry) }
     ensures tells { IfOk result (λ n. slice_get texts.new n ≡ Some (texts_of fact.now).entry) }
     ensures kept { Keeps texts.old texts.new }
 {

@@ -1,9 +1,9 @@
 //! What is left of a name behind its id: of what it speaks of, and of how it ends.
 
 ghost use Rattle.std.specs.Prelude.{◌≡◌, ◌∷◌, ◌++◌, [], MatchOption};
-ghost use Rattle.dt_names.specs.Left.{at_left, ending_left};
-ghost use Rattle.dt_names.specs.Rows.{at_pieces};
-ghost use Rattle.dt_names.specs.Words.{word_pieces};
+ghost use Rattle.dt_names.specs.Inner.Left.{at_left, ending_left};
+ghost use Rattle.dt_names.specs.Inner.Rows.{at_pieces};
+ghost use Rattle.dt_names.specs.Inner.Words.{word_pieces};
 
 use crate::piece::Piece;
 use crate::row::{At, Ending};
@@ -38,7 +38,8 @@ pub(crate) enum EndingLeft<'a> {
 #[inline(always)]
 /// Takes the next word of what a name speaks of; None exactly where nothing is left.
 pub(crate) fn next_at<'a>(left: &mut AtLeft<'a>) -> Option<Word<'a>>
-    ensures { MatchOption result ((at_left left.old ≡ []) × (at_left left.new ≡ [])) (λ w. at_left left.old ≡ word_pieces w ++ at_left left.new) }
+    ensures { MatchOption result ((at_left left.old ≡ []) × (at_left left.new ≡ []))
+        (λ w. at_left left.old ≡ word_pieces w ++ at_left left.new) }
 {
     match *left {
         AtLeft::Whole(at) => begin_at(left, at),
@@ -65,7 +66,8 @@ pub(crate) fn next_at<'a>(left: &mut AtLeft<'a>) -> Option<Word<'a>>
 // The same where all of it is left.
 fn begin_at<'a>(left: &mut AtLeft<'a>, at: At<'a>) -> Option<Word<'a>>
     requires { at_left left.old ≡ at_pieces at }
-    ensures { MatchOption result ((at_pieces at.entry ≡ []) × (at_left left.new ≡ [])) (λ w. at_pieces at.entry ≡ word_pieces w ++ at_left left.new) }
+    ensures { MatchOption result ((at_pieces at.entry ≡ []) × (at_left left.new ≡ []))
+        (λ w. at_pieces at.entry ≡ word_pieces w ++ at_left left.new) }
 {
     match at {
         At::Itself => None,
@@ -95,7 +97,8 @@ fn begin_at<'a>(left: &mut AtLeft<'a>, at: At<'a>) -> Option<Word<'a>>
 #[inline(always)]
 /// Takes the next word of how a name ends; None exactly where nothing is left.
 pub(crate) fn next_ending<'a>(left: &mut EndingLeft<'a>) -> Option<Word<'a>>
-    ensures { MatchOption result ((ending_left left.old ≡ []) × (ending_left left.new ≡ [])) (λ w. ending_left left.old ≡ word_pieces w ++ ending_left left.new) }
+    ensures { MatchOption result ((ending_left left.old ≡ []) × (ending_left left.new ≡ []))
+        (λ w. ending_left left.old ≡ word_pieces w ++ ending_left left.new) }
 {
     match *left {
         EndingLeft::Whole(Ending::Nothing) => None,

@@ -2,10 +2,10 @@
 
 ghost use Rattle.std.specs.Prelude.{◌≡◌, ◌-◌, ◌^◌, length, min};
 ghost use Rattle.std.specs.List.{flat_map};
-ghost use Rattle.dt_names.specs.Left.{behind_id};
-ghost use Rattle.dt_names.specs.Lengths.{spelled_size};
+ghost use Rattle.dt_names.specs.Inner.Left.{behind_id};
+ghost use Rattle.dt_names.specs.Inner.Lengths.{spelled_size};
 ghost use Rattle.dt_names.specs.Pieces.{escaped, quoted, spell};
-ghost use Rattle.dt_names.specs.Words.{piece_of, word_pieces};
+ghost use Rattle.dt_names.specs.Inner.Words.{piece_of, word_pieces};
 
 use crate::left::{AtLeft, EndingLeft};
 use crate::list::Listed;

@@ -3,10 +3,10 @@
 ghost use Rattle.std.specs.Prelude.{◌≡◌, ◌∷◌, ◌++◌, [], MatchOption};
 ghost use Rattle.dt_names.specs.Facts.{between, visit_end};
 ghost use Rattle.edt_base.specs.Nodes.{okay_of, is_okay};
-ghost use Rattle.dt_names.specs.Lists.{listed, things_of, thing_pieces, values_of};
+ghost use Rattle.dt_names.specs.Inner.Lists.{listed, things_of, thing_pieces, values_of};
 ghost use Rattle.dt_names.specs.Pieces.{lit, num};
-ghost use Rattle.dt_names.specs.Places.{places_in};
-ghost use Rattle.dt_names.specs.Words.{piece_of, word_pieces};
+ghost use Rattle.dt_names.specs.Inner.Places.{places_in};
+ghost use Rattle.dt_names.specs.Inner.Words.{piece_of, word_pieces};
 ghost use Rattle.dt_names.specs.declared.list.Listed.TheVariants.{Within};
 
 use crate::piece::{Params, Piece};
@@ -94,7 +94,8 @@ pub(crate) enum Thing<'a> {
 
 /// The next word of a list, and what is left of it then; None exactly where nothing is left.
 pub(crate) fn next_of_list<'a>(list: Listed<'a>) -> Option<(Word<'a>, Listed<'a>)>
-    ensures { MatchOption result (listed list.entry ≡ []) (λ r. listed list.entry ≡ word_pieces r.0 ++ listed r.1) }
+    ensures { MatchOption result (listed list.entry ≡ [])
+        (λ r. listed list.entry ≡ word_pieces r.0 ++ listed r.1) }
 {
     match list {
         Listed::Nothing => None,
@@ -147,7 +148,8 @@ fn num<'a>(number: u32) -> Word<'a>
 
 // The next word of a visit that is begun, and what is left then.
 fn next_within<'a>(params: Params, thing: Thing<'a>, rest: Visited<'a>) -> (Word<'a>, Listed<'a>)
-    ensures { listed (Within params thing.entry rest.entry) ≡ word_pieces result.0 ++ listed result.1 }
+    ensures { listed (Within params thing.entry rest.entry)
+        ≡ word_pieces result.0 ++ listed result.1 }
 {
     match next_of_thing(thing) {
         Some((word, left)) => (word, Listed::Within(params, left, rest)),
@@ -157,7 +159,8 @@ fn next_within<'a>(params: Params, thing: Thing<'a>, rest: Visited<'a>) -> (Word
 
 // The next word of a thing, and what is left of it then.
 fn next_of_thing<'a>(thing: Thing<'a>) -> Option<(Word<'a>, Thing<'a>)>
-    ensures { MatchOption result (thing_pieces thing.entry ≡ []) (λ r. thing_pieces thing.entry ≡ word_pieces r.0 ++ thing_pieces r.1) }
+    ensures { MatchOption result (thing_pieces thing.entry ≡ [])
+        (λ r. thing_pieces thing.entry ≡ word_pieces r.0 ++ thing_pieces r.1) }
 {
     match thing {
         Thing::Id(id) => Some((Word::Id(id), Thing::Nothing)),
@@ -253,7 +256,8 @@ fn next_okay<'a>(bound: &Bound, ids: &'a [NodeId]) -> Option<(usize, &'a [NodeId
 // The first of these places whose node is okay, and those behind it.
 fn next_okay_place(bound: &Bound, places: Places) -> Option<(usize, Places)>
     ensures { MatchOption result (okay_of bound.now.tree.nodes (places_in places) ≡ [])
-        (λ r. okay_of bound.now.tree.nodes (places_in places) ≡ r.0 ∷ okay_of bound.now.tree.nodes (places_in r.1)) }
+        (λ r. okay_of bound.now.tree.nodes (places_in places)
+        ≡ r.0 ∷ okay_of bound.now.tree.nodes (places_in r.1)) }
 {
     let mut left = places;
     while let Some((place, rest)) = left.split_first() {

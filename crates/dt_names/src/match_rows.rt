@@ -26,7 +26,8 @@ impl<'a> Model for Marked<'a> {
 
     ghost Value = { List FactData };
 
-    ghost view = { λ s. map (marked s.owner (path_at s.bound.now.tree.nodes s.owner) s.mark.now) s.rest.now };
+    ghost view = { λ s. map (marked s.owner (path_at s.bound.now.tree.nodes s.owner) s.mark.now)
+        s.rest.now };
 }
 
 impl<'a> Marked<'a> {
@@ -37,7 +38,8 @@ impl<'a> Marked<'a> {
         mark: &'static str,
         words: &'a [Text],
     ) -> Marked<'a>
-        ensures { result ≡ map (marked owner (path_at bound.now.tree.nodes owner) mark.now) words.now }
+        ensures { result
+            ≡ map (marked owner (path_at bound.now.tree.nodes owner) mark.now) words.now }
     {
         Marked {
             bound,
@@ -49,7 +51,8 @@ impl<'a> Marked<'a> {
 
     /// Puts the next definition into `fact`; false exactly where none is left.
     pub(crate) fn next(&mut self, fact: &mut Fact<'a>) -> bool
-        ensures { MatchBool result (self.old ≡ fact.new ∷ self.new) ((self.old ≡ []) × (self.new ≡ [])) }
+        ensures { MatchBool result (self.old ≡ fact.new ∷ self.new) ((self.old ≡ [])
+            × (self.new ≡ [])) }
     {
         let Some((word, rest)) = self.rest.split_first() else {
             return false;
@@ -114,7 +117,8 @@ impl<'a> MatchRows<'a> {
 
     /// Puts the next definition into `fact`; false exactly where none is left.
     pub(crate) fn next(&mut self, fact: &mut Fact<'a>) -> bool
-        ensures { MatchBool result (self.old ≡ fact.new ∷ self.new) ((self.old ≡ []) × (self.new ≡ [])) }
+        ensures { MatchBool result (self.old ≡ fact.new ∷ self.new) ((self.old ≡ [])
+            × (self.new ≡ [])) }
     {
         if self.status.next(fact) {
             return true;

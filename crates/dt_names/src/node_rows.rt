@@ -3,7 +3,7 @@
 ghost use Rattle.std.specs.Prelude.{◌≡◌, ◌∷◌, [], option_map, slice_get, unwrap_or, MatchBool};
 ghost use Rattle.edt_base.specs.Nodes.{path_at};
 ghost use Rattle.dt_names.specs.Facts.{node_facts, titled, titled_node};
-ghost use Rattle.dt_names.specs.Sections.{head_facts, head_section, props_at};
+ghost use Rattle.dt_names.specs.Inner.Sections.{head_facts, head_section, props_at};
 
 use crate::child_rows::ChildRows;
 use crate::fact::{Fact, Queue};
@@ -48,7 +48,8 @@ impl<'a> HeadRows<'a> {
     }
 
     fn next(&mut self, fact: &mut Fact<'a>) -> bool
-        ensures { MatchBool result (self.old ≡ fact.new ∷ self.new) ((self.old ≡ []) × (self.new ≡ [])) }
+        ensures { MatchBool result (self.old ≡ fact.new ∷ self.new) ((self.old ≡ [])
+            × (self.new ≡ [])) }
     {
         if self.path.next(fact) {
             return true;
@@ -77,7 +78,7 @@ pub(crate) struct TitledHead<'a> {
 impl<'a> Model for TitledHead<'a> {
     ghost use Rattle.std.specs.Prelude.{List, option_map};
     ghost use Rattle.dt_names.specs.Facts.{FactData};
-    ghost use Rattle.dt_names.specs.Rows.{titled_by};
+    ghost use Rattle.dt_names.specs.Inner.Rows.{titled_by};
 
     ghost Value = { List FactData };
 
@@ -103,7 +104,8 @@ impl<'a> TitledHead<'a> {
 
     /// Puts the next definition into `fact`; false exactly where none is left.
     pub(crate) fn next(&mut self, fact: &mut Fact<'a>) -> bool
-        ensures { MatchBool result (self.old ≡ fact.new ∷ self.new) ((self.old ≡ []) × (self.new ≡ [])) }
+        ensures { MatchBool result (self.old ≡ fact.new ∷ self.new) ((self.old ≡ [])
+            × (self.new ≡ [])) }
     {
         if !self.rows.next(fact) {
             return false;
@@ -152,7 +154,8 @@ impl<'a> TitledNode<'a> {
 
     /// Puts the next definition into `fact`; false exactly where none is left.
     pub(crate) fn next(&mut self, fact: &mut Fact<'a>) -> bool
-        ensures { MatchBool result (self.old ≡ fact.new ∷ self.new) ((self.old ≡ []) × (self.new ≡ [])) }
+        ensures { MatchBool result (self.old ≡ fact.new ∷ self.new) ((self.old ≡ [])
+            × (self.new ≡ [])) }
     {
         if self.head.next(fact) {
             return true;

@@ -2,13 +2,13 @@
 
 ghost use Rattle.std.specs.Prelude.{◌≡◌, ◌∷◌, ◌++◌, [], MatchOption, codes};
 ghost use Rattle.dt_names.specs.Facts.{id_pieces, name_first, names_pieces};
-ghost use Rattle.dt_names.specs.Ids.{id_left};
-ghost use Rattle.dt_names.specs.Left.{behind_id};
-ghost use Rattle.dt_names.specs.Lengths.{spelled_size};
-ghost use Rattle.dt_names.specs.Lists.{listed};
+ghost use Rattle.dt_names.specs.Inner.Ids.{id_left};
+ghost use Rattle.dt_names.specs.Inner.Left.{behind_id};
+ghost use Rattle.dt_names.specs.Inner.Lengths.{spelled_size};
+ghost use Rattle.dt_names.specs.Inner.Lists.{listed};
 ghost use Rattle.dt_names.specs.Pieces.{lit, form};
-ghost use Rattle.dt_names.specs.Rows.{tail_pieces};
-ghost use Rattle.dt_names.specs.Words.{piece_of, word_pieces};
+ghost use Rattle.dt_names.specs.Inner.Rows.{tail_pieces};
+ghost use Rattle.dt_names.specs.Inner.Words.{piece_of, word_pieces};
 
 use crate::left::{AtLeft, EndingLeft, next_at, next_ending};
 use crate::length::{behind_len, piece_len};
@@ -41,8 +41,8 @@ pub struct Pieces<'a> {
 
 impl<'a> Model for Pieces<'a> {
     ghost use Rattle.std.specs.Prelude.{◌++◌, List};
-    ghost use Rattle.dt_names.specs.Ids.{id_left};
-    ghost use Rattle.dt_names.specs.Left.{behind_id};
+    ghost use Rattle.dt_names.specs.Inner.Ids.{id_left};
+    ghost use Rattle.dt_names.specs.Inner.Left.{behind_id};
     ghost use Rattle.dt_names.specs.Pieces.{PieceData};
 
     ghost Value = { List PieceData };
@@ -102,7 +102,8 @@ impl<'a> Pieces<'a> {
     #[inline(always)]
     /// The next piece; None exactly after the last. Takes no memory.
     pub fn next(&mut self) -> Option<Piece<'a>>
-        ensures { MatchOption result ((self.old ≡ []) × (self.new ≡ [])) (λ p. self.old ≡ piece_of p ∷ self.new) }
+        ensures { MatchOption result ((self.old ≡ []) × (self.new ≡ []))
+            (λ p. self.old ≡ piece_of p ∷ self.new) }
     {
         if let Some(piece) = next_of_id(&mut self.id) {
             return Some(piece);
@@ -129,8 +130,10 @@ pub(crate) fn next_behind<'a>(
     ending: &mut EndingLeft<'a>,
     list: &mut Listed<'a>,
 ) -> Option<Word<'a>>
-    ensures { MatchOption result ((behind_id at.old ending.old list.old ≡ []) × (behind_id at.new ending.new list.new ≡ []))
-        (λ w. behind_id at.old ending.old list.old ≡ word_pieces w ++ behind_id at.new ending.new list.new) }
+    ensures { MatchOption result ((behind_id at.old ending.old list.old ≡ [])
+        × (behind_id at.new ending.new list.new ≡ []))
+        (λ w. behind_id at.old ending.old list.old
+        ≡ word_pieces w ++ behind_id at.new ending.new list.new) }
 {
     if let Some(word) = next_at(at) {
         return Some(word);
@@ -190,7 +193,8 @@ fn begun<'a>(word: Word<'a>) -> (Piece<'a>, IdLeft<'a>)
 #[inline(always)]
 // Takes the next piece of an id; None exactly where nothing is left.
 fn next_of_id<'a>(left: &mut IdLeft<'a>) -> Option<Piece<'a>>
-    ensures { MatchOption result ((id_left left.old ≡ []) × (id_left left.new ≡ [])) (λ p. id_left left.old ≡ piece_of p ∷ id_left left.new) }
+    ensures { MatchOption result ((id_left left.old ≡ []) × (id_left left.new ≡ []))
+        (λ p. id_left left.old ≡ piece_of p ∷ id_left left.new) }
 {
     match *left {
         IdLeft::Whole(id) => {

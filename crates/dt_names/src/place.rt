@@ -13,7 +13,7 @@ pub(crate) struct Places {
 impl Places {
     ghost use Rattle.std.specs.Prelude.{◌≡◌, ◌∷◌, [], MatchOption};
     ghost use Rattle.std.specs.List.{range_with_len};
-    ghost use Rattle.dt_names.specs.Places.{places_in};
+    ghost use Rattle.dt_names.specs.Inner.Places.{places_in};
 
     /// The places from 0, so many.
     pub(crate) fn below(count: usize) -> Places
@@ -27,7 +27,8 @@ impl Places {
 
     /// The first place, and those behind it.
     pub(crate) fn split_first(self) -> Option<(usize, Places)>
-        ensures { MatchOption result (places_in self ≡ []) (λ r. places_in self ≡ r.0 ∷ places_in r.1) }
+        ensures { MatchOption result (places_in self ≡ [])
+            (λ r. places_in self ≡ r.0 ∷ places_in r.1) }
     {
         if self.next == self.end {
             return None;

@@ -48,7 +48,8 @@ pub(crate) fn path_rows<'a>(bound: &'a Bound, n: u32, node: &'a NodeRec) -> Queu
 
 /// That the node is there, its ordinal, and the ordinals of what it requires and supports.
 pub(crate) fn order_rows<'a>(bound: &'a Bound, n: u32, node: &'a BoundNode) -> Queue<'a>
-    ensures { result ≡ order_facts n (path_at bound.now.tree.nodes n) (ords_at bound.now.nodes n) node.now }
+    ensures { result
+        ≡ order_facts n (path_at bound.now.tree.nodes n) (ords_at bound.now.nodes n) node.now }
 {
     let needs = bound.needs_ords(NodeId(n));
     let supports = bound.supports_ords(NodeId(n));

@@ -4,8 +4,8 @@ ghost use Rattle.std.specs.Prelude.{◌≡◌, ◌∷◌, [], option_map, unwrap
 ghost use Rattle.std.specs.List.{flat_map};
 ghost use Rattle.std.specs.Option.{option_map_or};
 ghost use Rattle.edt_base.specs.Nodes.{path_at};
-ghost use Rattle.dt_names.specs.Rows.{body_pieces};
-ghost use Rattle.dt_names.specs.Groups.{shown_as};
+ghost use Rattle.dt_names.specs.Inner.Rows.{body_pieces};
+ghost use Rattle.dt_names.specs.Inner.Groups.{shown_as};
 ghost use Rattle.dt_names.specs.declared.piece.Params.TheVariants.{Plain};
 ghost use Rattle.dt_names.specs.Facts.{choice_lines, choice_of, count_facts, counted, each, elem_lines, elements, elem_choices, is_compound, is_shown, is_uncounted, of_prop, plain, prop_facts, shown_facts, there, value_body};
 
@@ -42,14 +42,17 @@ impl<'a> Model for PropRows<'a> {
 impl<'a> PropRows<'a> {
     // Those of a property that makes definitions.
     fn new(bound: &'a Bound, n: u32, prop: &'a Prop) -> PropRows<'a>
-        ensures { result ≡ shown_facts bound.now.tree.nodes n (path_at bound.now.tree.nodes n) prop.now }
+        ensures { result
+            ≡ shown_facts bound.now.tree.nodes n (path_at bound.now.tree.nodes n) prop.now }
     {
         PropRows::of(bound, n, Name::new(name_of(prop)), prop)
     }
 
     // The same, where its name's form is counted.
     fn of(bound: &'a Bound, n: u32, name: Name<'a>, prop: &'a Prop) -> PropRows<'a>
-        ensures { result ≡ shown_as bound.now.tree.nodes n (path_at bound.now.tree.nodes n) name.entry.text.now prop.now }
+        ensures { result
+            ≡ shown_as bound.now.tree.nodes n (path_at bound.now.tree.nodes n) name.entry.text.now
+            prop.now }
     {
         PropRows {
             value: value_row(bound, n, name, prop),
@@ -65,7 +68,8 @@ impl<'a> PropRows<'a> {
 
     /// Puts the next definition into `fact`; false exactly where none is left.
     pub(crate) fn next(&mut self, fact: &mut Fact<'a>) -> bool
-        ensures { MatchBool result (self.old ≡ fact.new ∷ self.new) ((self.old ≡ []) × (self.new ≡ [])) }
+        ensures { MatchBool result (self.old ≡ fact.new ∷ self.new) ((self.old ≡ [])
+            × (self.new ≡ [])) }
     {
         if self.value.next(fact) {
             return true;
@@ -111,7 +115,8 @@ impl<'a> CountRows<'a> {
 
     // Those of so many elements.
     fn new(bound: &'a Bound, n: u32, name: Name<'a>, count: usize) -> CountRows<'a>
-        ensures { result ≡ count_facts n (path_at bound.now.tree.nodes n) name.entry.text.now count }
+        ensures { result
+            ≡ count_facts n (path_at bound.now.tree.nodes n) name.entry.text.now count }
     {
         let at = At::Prop(name);
         CountRows {
@@ -130,7 +135,8 @@ impl<'a> CountRows<'a> {
     }
 
     fn next(&mut self, fact: &mut Fact<'a>) -> bool
-        ensures { MatchBool result (self.old ≡ fact.new ∷ self.new) ((self.old ≡ []) × (self.new ≡ [])) }
+        ensures { MatchBool result (self.old ≡ fact.new ∷ self.new) ((self.old ≡ [])
+            × (self.new ≡ [])) }
     {
         if self.len.next(fact) {
             return true;
@@ -141,21 +147,28 @@ impl<'a> CountRows<'a> {
 
 // The choice of an int or a string.
 fn prop_choice<'a>(bound: &'a Bound, n: u32, name: Name<'a>, prop: &'a Prop) -> Queue<'a>
-    ensures { result ≡ option_map_or (choice_lines n (path_at bound.now.tree.nodes n) (of_prop name.entry.text.now [])) (choice_of prop.now.choices prop.now.val) [] }
+    ensures { result
+        ≡ option_map_or (choice_lines n (path_at bound.now.tree.nodes n)
+        (of_prop name.entry.text.now [])) (choice_of prop.now.choices prop.now.val) [] }
 {
     choice_rows(bound, n, At::Prop(name), first_choice(prop))
 }
 
 // The elements.
 fn prop_elems<'a>(bound: &'a Bound, n: u32, name: Name<'a>, prop: &'a Prop) -> ElemRows<'a>
-    ensures { result ≡ each (elem_lines bound.now.tree.nodes n (path_at bound.now.tree.nodes n) name.entry.text.now (elem_choices prop.now.choices prop.now.val)) 0 (elements prop.now.ty prop.now.val) }
+    ensures { result
+        ≡ each (elem_lines bound.now.tree.nodes n (path_at bound.now.tree.nodes n)
+        name.entry.text.now (elem_choices prop.now.choices prop.now.val)) 0
+        (elements prop.now.ty prop.now.val) }
 {
     ElemRows::new(bound, n, name, elem_choices(prop), elems_of(prop))
 }
 
 // The number of the elements, where they are counted.
 fn prop_counts<'a>(bound: &'a Bound, n: u32, name: Name<'a>, prop: &'a Prop) -> CountRows<'a>
-    ensures { result ≡ option_map_or (count_facts n (path_at bound.now.tree.nodes n) name.entry.text.now) (counted prop.now) [] }
+    ensures { result
+        ≡ option_map_or (count_facts n (path_at bound.now.tree.nodes n) name.entry.text.now)
+        (counted prop.now) [] }
 {
     match counted(prop) {
         Some(count) => CountRows::new(bound, n, name, count),
@@ -171,7 +184,10 @@ fn name_of(prop: &Prop) -> &[u8]
 
 // The value, where it is one thing.
 fn value_row<'a>(bound: &'a Bound, n: u32, name: Name<'a>, prop: &'a Prop) -> Single<'a>
-    ensures { result ≡ there (option_map (λ body. plain n (path_at bound.now.tree.nodes n) (of_prop name.entry.text.now []) body) (value_body bound.now.tree.nodes prop.now.val)) }
+    ensures { result
+        ≡ there (option_map
+        (λ body. plain n (path_at bound.now.tree.nodes n) (of_prop name.entry.text.now []) body)
+        (value_body bound.now.tree.nodes prop.now.val)) }
 {
     match &prop.val {
         Val::Bool(truth) => {
@@ -206,7 +222,9 @@ fn value_row<'a>(bound: &'a Bound, n: u32, name: Name<'a>, prop: &'a Prop) -> Si
 }
 
 fn value_of<'a>(bound: &'a Bound, n: u32, name: Name<'a>, body: Body<'a>) -> Single<'a>
-    ensures { result ≡ plain n (path_at bound.now.tree.nodes n) (of_prop name.entry.text.now []) (body_pieces bound.now.tree.nodes n Plain body.entry) ∷ [] }
+    ensures { result
+        ≡ plain n (path_at bound.now.tree.nodes n) (of_prop name.entry.text.now [])
+        (body_pieces bound.now.tree.nodes n Plain body.entry) ∷ [] }
 {
     Single::new(bound, Some(plain(n, At::Prop(name), Ending::Nothing, body)))
 }
@@ -267,7 +285,8 @@ fn is_compound(ty: PropType) -> bool
 
 /// The definitions on a property, where it makes some.
 pub(crate) fn shown<'a>(bound: &'a Bound, n: u32, prop: &'a Prop) -> Option<PropRows<'a>>
-    ensures { unwrap_or result [] ≡ prop_facts bound.now.tree.nodes n (path_at bound.now.tree.nodes n) prop.now }
+    ensures { unwrap_or result []
+        ≡ prop_facts bound.now.tree.nodes n (path_at bound.now.tree.nodes n) prop.now }
 {
     if is_shown(prop) {
         return Some(PropRows::new(bound, n, prop));
@@ -275,11 +294,12 @@ pub(crate) fn shown<'a>(bound: &'a Bound, n: u32, prop: &'a Prop) -> Option<Prop
     None
 }
 
-// Puts the definitions on a property in the place of others. Apart from `next`, which needn't hold room
-// for them.
+// Puts the definitions on a property in the place of others. Apart from `next`, which needn't hold
+// room for them.
 #[inline(never)]
 fn begin_prop<'a>(rows: &mut Option<PropRows<'a>>, bound: &'a Bound, n: u32, prop: &'a Prop)
-    ensures { unwrap_or rows.new [] ≡ prop_facts bound.now.tree.nodes n (path_at bound.now.tree.nodes n) prop.now }
+    ensures { unwrap_or rows.new []
+        ≡ prop_facts bound.now.tree.nodes n (path_at bound.now.tree.nodes n) prop.now }
 {
     *rows = shown(bound, n, prop);
 }
@@ -301,13 +321,17 @@ impl<'a> Model for PropsRows<'a> {
 
     ghost Value = { List FactData };
 
-    ghost view = { λ s. unwrap_or s.prop [] ++ flat_map (prop_facts s.bound.now.tree.nodes s.owner (path_at s.bound.now.tree.nodes s.owner)) s.rest.now };
+    ghost view = { λ s. unwrap_or s.prop [] ++ flat_map
+        (prop_facts s.bound.now.tree.nodes s.owner (path_at s.bound.now.tree.nodes s.owner))
+        s.rest.now };
 }
 
 impl<'a> PropsRows<'a> {
     /// Those of the node n.
     pub(crate) fn new(bound: &'a Bound, n: u32, props: &'a [Prop]) -> PropsRows<'a>
-        ensures { result ≡ flat_map (prop_facts bound.now.tree.nodes n (path_at bound.now.tree.nodes n)) props.now }
+        ensures { result
+            ≡ flat_map (prop_facts bound.now.tree.nodes n (path_at bound.now.tree.nodes n))
+            props.now }
     {
         PropsRows {
             bound,
@@ -319,7 +343,8 @@ impl<'a> PropsRows<'a> {
 
     /// Puts the next definition into `fact`; false exactly where none is left.
     pub(crate) fn next(&mut self, fact: &mut Fact<'a>) -> bool
-        ensures { MatchBool result (self.old ≡ fact.new ∷ self.new) ((self.old ≡ []) × (self.new ≡ [])) }
+        ensures { MatchBool result (self.old ≡ fact.new ∷ self.new) ((self.old ≡ [])
+            × (self.new ≡ [])) }
     {
         loop {
             if let Some(prop) = &mut self.prop {

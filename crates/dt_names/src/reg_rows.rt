@@ -5,7 +5,7 @@ ghost use Rattle.std.specs.Option.{option_map_or};
 ghost use Rattle.edt_base.specs.Nodes.{path_at};
 ghost use Rattle.dt_names.specs.Facts.{each, reg_lines, reg_facts, range_facts, range_lines};
 ghost use Rattle.dt_names.specs.Pieces.{lit, form};
-ghost use Rattle.dt_names.specs.Rows.{at_pieces};
+ghost use Rattle.dt_names.specs.Inner.Rows.{at_pieces};
 
 use crate::fact::{Fact, Queue};
 use crate::row::{At, Ending};
@@ -49,8 +49,8 @@ impl<'a> RegLines<'a> {
         }
     }
 
-    // Puts those of another register in the place of these. Apart from `next`, which needn't hold room for
-    // them.
+    // Puts those of another register in the place of these. Apart from `next`, which needn't hold
+    // room for them.
     #[inline(never)]
     fn begin(&mut self, bound: &'a Bound, n: u32, i: usize, reg: &'a Reg)
         ensures { self.new ≡ reg_facts n (path_at bound.now.tree.nodes n) i reg.now }
@@ -59,7 +59,8 @@ impl<'a> RegLines<'a> {
     }
 
     fn next(&mut self, fact: &mut Fact<'a>) -> bool
-        ensures { MatchBool result (self.old ≡ fact.new ∷ self.new) ((self.old ≡ []) × (self.new ≡ [])) }
+        ensures { MatchBool result (self.old ≡ fact.new ∷ self.new) ((self.old ≡ [])
+            × (self.new ≡ [])) }
     {
         if self.indexed.next(fact) {
             return true;
@@ -86,7 +87,8 @@ impl<'a> Model for RegRows<'a> {
 
     ghost Value = { List FactData };
 
-    ghost view = { λ s. s.lines ++ each (reg_facts s.owner (path_at s.bound.now.tree.nodes s.owner)) s.index s.rest.now };
+    ghost view = { λ s. s.lines ++ each
+        (reg_facts s.owner (path_at s.bound.now.tree.nodes s.owner)) s.index s.rest.now };
 
     ghost invariant = { λ s. s.index + length s.rest.now ≡ length s.all.now };
 }
@@ -108,7 +110,8 @@ impl<'a> RegRows<'a> {
 
     /// Puts the next definition into `fact`; false exactly where none is left.
     pub(crate) fn next(&mut self, fact: &mut Fact<'a>) -> bool
-        ensures { MatchBool result (self.old ≡ fact.new ∷ self.new) ((self.old ≡ []) × (self.new ≡ [])) }
+        ensures { MatchBool result (self.old ≡ fact.new ∷ self.new) ((self.old ≡ [])
+            × (self.new ≡ [])) }
     {
         if self.lines.next(fact) {
             return true;
@@ -153,7 +156,9 @@ fn reg_lines<'a>(bound: &'a Bound, n: u32, at: At<'a>, reg: &'a Reg) -> Queue<'a
 
 // A register by its name, where it has one.
 fn named_lines<'a>(bound: &'a Bound, n: u32, reg: &'a Reg) -> Queue<'a>
-    ensures { result ≡ option_map_or (λ m. reg_lines n (path_at bound.now.tree.nodes n) (lit (codes "_REG_NAME_") ∷ form m ∷ []) reg.now) reg.now.name [] }
+    ensures { result ≡ option_map_or
+        (λ m. reg_lines n (path_at bound.now.tree.nodes n) (lit (codes "_REG_NAME_") ∷ form m ∷ [])
+        reg.now) reg.now.name [] }
 {
     match &reg.name {
         Some(name) => {
@@ -182,7 +187,8 @@ impl<'a> Model for RangeRows<'a> {
 
     ghost Value = { List FactData };
 
-    ghost view = { λ s. s.indexed ++ each (range_facts s.owner (path_at s.bound.now.tree.nodes s.owner)) s.index s.rest.now };
+    ghost view = { λ s. s.indexed ++ each
+        (range_facts s.owner (path_at s.bound.now.tree.nodes s.owner)) s.index s.rest.now };
 
     ghost invariant = { λ s. s.index + length s.rest.now ≡ length s.all.now };
 }
@@ -204,7 +210,8 @@ impl<'a> RangeRows<'a> {
 
     /// Puts the next definition into `fact`; false exactly where none is left.
     pub(crate) fn next(&mut self, fact: &mut Fact<'a>) -> bool
-        ensures { MatchBool result (self.old ≡ fact.new ∷ self.new) ((self.old ≡ []) × (self.new ≡ [])) }
+        ensures { MatchBool result (self.old ≡ fact.new ∷ self.new) ((self.old ≡ [])
+            × (self.new ≡ [])) }
     {
         if self.indexed.next(fact) {
             return true;
@@ -222,8 +229,8 @@ impl<'a> RangeRows<'a> {
     }
 }
 
-// Puts the definitions on a range in the place of others. Apart from `next`, which needn't hold room for
-// them.
+// Puts the definitions on a range in the place of others. Apart from `next`, which needn't hold
+// room for them.
 #[inline(never)]
 fn begin_range<'a>(rows: &mut Queue<'a>, bound: &'a Bound, n: u32, i: usize, range: &'a Range)
     ensures { rows.new ≡ range_facts n (path_at bound.now.tree.nodes n) i range.now }
@@ -233,7 +240,8 @@ fn begin_range<'a>(rows: &mut Queue<'a>, bound: &'a Bound, n: u32, i: usize, ran
 
 // A range, by its place.
 fn range_lines<'a>(bound: &'a Bound, n: u32, at: At<'a>, range: &'a Range) -> Queue<'a>
-    ensures { result ≡ range_lines n (path_at bound.now.tree.nodes n) (at_pieces at.entry) range.now }
+    ensures { result
+        ≡ range_lines n (path_at bound.now.tree.nodes n) (at_pieces at.entry) range.now }
 {
     Queue::four(
         bound,

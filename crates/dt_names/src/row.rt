@@ -1,5 +1,5 @@
-//! A row of the table of definitions at what it speaks of, as plain data: the shape of its name, and
-//! its body. What it stands for is `fact_of` in `specs/Rows.antt`.
+//! A row of the table of definitions at what it speaks of, as plain data: the shape of its name,
+//! and its body. What it stands for is `fact_of` in `specs/Rows.antt`.
 
 use crate::list::Values;
 use crate::piece::{Params, Piece};

@@ -5,7 +5,7 @@ ghost use Rattle.edt_base.specs.Nodes.{path_at};
 ghost use Rattle.edt_base.specs.NodeData.{NodeData};
 ghost use Rattle.dt_names.specs.Facts.{link, walks};
 ghost use Rattle.dt_names.specs.Pieces.{lit};
-ghost use Rattle.dt_names.specs.Rows.{at_pieces, cell_row, fact_of, number_row, plain_row, things_at, tree_row, walk_row};
+ghost use Rattle.dt_names.specs.Inner.Rows.{at_pieces, cell_row, fact_of, number_row, plain_row, things_at, tree_row, walk_row};
 
 use crate::fact::Queue;
 use crate::piece::{Params, Piece};
@@ -70,7 +70,10 @@ pub(crate) fn walks<'a>(
     mark: &'static str,
     things: Things<'a>,
 ) -> Queue<'a>
-    ensures { result ≡ walks owner (path_at bound.now.tree.nodes owner) (at_pieces at.entry ++ lit mark.now ∷ []) (things_at bound.now.tree.nodes owner things.entry) }
+    ensures { result
+        ≡ walks owner (path_at bound.now.tree.nodes owner)
+        (at_pieces at.entry ++ lit mark.now ∷ [])
+        (things_at bound.now.tree.nodes owner things.entry) }
 {
     let body = Body::Visits(things);
     Queue::four(
@@ -111,7 +114,8 @@ pub(crate) fn tree_row<'a>(
 
 /// The definition of a word's node.
 pub(crate) fn link<'a>(mark: &'static str, word: &'a [u8], node: u32) -> Row<'a>
-    ensures { (nodes : List NodeData) → fact_of nodes result ≡ link nodes mark.now (word.now, node) }
+    ensures { (nodes : List NodeData) → fact_of nodes result
+        ≡ link nodes mark.now (word.now, node) }
 {
     tree_row(
         node,

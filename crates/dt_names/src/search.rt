@@ -13,10 +13,11 @@ use edt_base::Bound;
 use indexmap::IndexSet;
 use std::alloc::{AllocError, Global};
 
-/// Compares all definitions of one name, as C does (ISO C, 6.10.3: a macro may be defined again only
-/// as it was): gives the node of the first that differs from an earlier one of its name, else the
-/// places of those that repeat one. The time is near that of the walk over the definitions: names are
-/// looked up by the numbers of their texts and not spelled whole. The one error is want of memory.
+/// Compares all definitions of one name, as C does (ISO C, 6.10.3: a macro may be defined again
+/// only as it was): gives the node of the first that differs from an earlier one of its name, else
+/// the places of those that repeat one. The time is near that of the walk over the definitions:
+/// names are looked up by the numbers of their texts and not spelled whole. The one error is want
+/// of memory.
 pub fn clash(alloc: Global, b: &Bound) -> Result<Clash, AllocError>
     ensures { IfOk result (λ c. IsAnswer (facts b.now) c) }
 {

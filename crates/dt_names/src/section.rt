@@ -45,7 +45,7 @@ pub(crate) struct Rows<'a> {
 impl<'a> Model for Rows<'a> {
     ghost use Rattle.std.specs.Prelude.{List};
     ghost use Rattle.dt_names.specs.Facts.{FactData};
-    ghost use Rattle.dt_names.specs.Parts.{rows_in};
+    ghost use Rattle.dt_names.specs.Inner.Parts.{rows_in};
 
     ghost Value = { List FactData };
 
@@ -94,7 +94,8 @@ impl<'a> Rows<'a> {
 
     /// Puts the next definition into `fact`; false exactly where none is left.
     pub(crate) fn next(&mut self, fact: &mut Fact<'a>) -> bool
-        ensures { MatchBool result (self.old ≡ fact.new ∷ self.new) ((self.old ≡ []) × (self.new ≡ [])) }
+        ensures { MatchBool result (self.old ≡ fact.new ∷ self.new) ((self.old ≡ [])
+            × (self.new ≡ [])) }
     {
         match &mut self.kind {
             Kind::Head(rows) => rows.next(fact),

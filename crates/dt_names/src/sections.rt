@@ -3,11 +3,11 @@
 ghost use Rattle.std.specs.Prelude.{◌≡◌, [], List, MatchOption, drop, true};
 ghost use Rattle.edt_base.specs.Nodes.{path_at};
 ghost use Rattle.dt_names.specs.Facts.{facts, id_at, prop_facts};
-ghost use Rattle.dt_names.specs.Keys.{GoOn};
-ghost use Rattle.dt_names.specs.Parts.{IsNext, IsSplit, SpeakOf, base_in, base_left, props_of, sections_left};
+ghost use Rattle.dt_names.specs.Inner.Keys.{GoOn};
+ghost use Rattle.dt_names.specs.Inner.Parts.{IsNext, IsSplit, SpeakOf, base_in, base_left, props_of, sections_left};
 ghost use Rattle.dt_names.specs.Pieces.{PieceData};
-ghost use Rattle.dt_names.specs.Sections.{AreBased, head_section, joined, props_at, tree_section};
-ghost use Rattle.dt_names.specs.Standing.{StandsAt};
+ghost use Rattle.dt_names.specs.Inner.Sections.{AreBased, head_section, joined, props_at, tree_section};
+ghost use Rattle.dt_names.specs.Inner.Standing.{StandsAt};
 
 use crate::child_place::node_from;
 use crate::node_rows::{props_at, titled_head};
@@ -50,7 +50,8 @@ pub(crate) fn all_sections(bound: &Bound) -> Sections<'_>
 
 /// The next section, and what is left then; None exactly after the last.
 pub(crate) fn next_section<'a>(left: Sections<'a>) -> Option<(Section<'a>, Sections<'a>)>
-    ensures { MatchOption result (sections_left left.entry ≡ []) (λ r. IsNext left.entry r.0.of r.0.rows r.1) }
+    ensures { MatchOption result (sections_left left.entry ≡ [])
+        (λ r. IsNext left.entry r.0.of r.0.rows r.1) }
 {
     if let Some((prop, node)) = split_props(left.node) {
         return Some(next_prop(left, prop, node));
@@ -135,7 +136,8 @@ fn last_section<'a>(left: Sections<'a>) -> (Section<'a>, Sections<'a>)
 #[tactic(auto, using(crate::proofs::Based::prop_based, crate::proofs::OfProp::props_of_prop))]
 // The definitions on a property.
 fn on_prop<'a>(bound: &'a Bound, n: u32, prop: &'a Prop) -> Section<'a>
-    ensures rows { result.rows ≡ prop_facts bound.now.tree.nodes n (path_at bound.now.tree.nodes n) prop.now }
+    ensures rows { result.rows
+        ≡ prop_facts bound.now.tree.nodes n (path_at bound.now.tree.nodes n) prop.now }
     ensures base { (before : List PieceData) → base_in before result.of ≡ before }
     ensures based { AreBased (id_at bound.now.tree.nodes n) result.rows }
     ensures own { SpeakOf result.of result.rows }
@@ -155,7 +157,8 @@ fn on_prop<'a>(bound: &'a Bound, n: u32, prop: &'a Prop) -> Section<'a>
 fn before_props<'a>(bound: &'a Bound, n: u32, node: &'a NodeRec) -> Section<'a>
     requires { path_at bound.now.tree.nodes n ≡ node.now.path }
     ensures rows { result.rows ≡ head_section bound.now n node.now }
-    ensures base { (before : List PieceData) → base_in before result.of ≡ id_at bound.now.tree.nodes n }
+    ensures base { (before : List PieceData) → base_in before result.of
+        ≡ id_at bound.now.tree.nodes n }
     ensures based { AreBased (id_at bound.now.tree.nodes n) result.rows }
     ensures own { SpeakOf result.of result.rows }
     ensures going { GoOn result.rows }

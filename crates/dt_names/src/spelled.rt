@@ -4,7 +4,7 @@ ghost use Rattle.std.specs.Prelude.{◌≡◌, ◌++◌, IfOk, OnOk};
 ghost use Rattle.std.specs.List.{flat_map};
 ghost use Rattle.edt_base.specs.Forms.{form_of};
 ghost use Rattle.dt_names.specs.Pieces.{escaped, quoted, spell, spells};
-ghost use Rattle.dt_names.specs.Words.{piece_of};
+ghost use Rattle.dt_names.specs.Inner.Words.{piece_of};
 
 use crate::forms::form_char;
 use crate::piece::Piece;

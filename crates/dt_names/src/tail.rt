@@ -1,8 +1,8 @@
 //! What a name has behind its id, and its parts.
 
 ghost use Rattle.std.specs.Prelude.{◌≡◌, ◌∷◌, ◌++◌, [], MatchOption, codes, drop, false, take, true};
-ghost use Rattle.dt_names.specs.Keys.{IsParted, behind_prop, is_of_prop};
-ghost use Rattle.dt_names.specs.Rows.{at_pieces, ending_pieces, tail_pieces};
+ghost use Rattle.dt_names.specs.Inner.Keys.{IsParted, behind_prop, is_of_prop};
+ghost use Rattle.dt_names.specs.Inner.Rows.{at_pieces, ending_pieces, tail_pieces};
 
 use crate::row::{At, Ending};
 

@@ -1,7 +1,7 @@
 //! Texts by their numbers.
 
 ghost use Rattle.std.specs.Prelude.{◌≡◌, [], IfOk, Some, slice_get};
-ghost use Rattle.dt_names.specs.Keys.{AreDistinct, Keeps};
+ghost use Rattle.dt_names.specs.Inner.Keys.{AreDistinct, Keeps};
 
 use indexmap::IndexSet;
 use std::alloc::{AllocError, Global};

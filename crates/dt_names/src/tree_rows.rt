@@ -31,7 +31,8 @@ impl<'a> Model for AliasRows<'a> {
 
 impl<'a> AliasRows<'a> {
     fn next(&mut self, fact: &mut Fact<'a>) -> bool
-        ensures { MatchBool result (self.old ≡ fact.new ∷ self.new) ((self.old ≡ []) × (self.new ≡ [])) }
+        ensures { MatchBool result (self.old ≡ fact.new ∷ self.new) ((self.old ≡ [])
+            × (self.new ≡ [])) }
     {
         let Some((alias, rest)) = self.rest.split_first() else {
             return false;
@@ -58,13 +59,16 @@ impl<'a> Model for LabelRows<'a> {
 
     ghost Value = { List FactData };
 
-    ghost view = { λ s. map (λ label. link s.bound.now.tree.nodes (codes "DT_N_NODELABEL_") (label, s.owner)) s.labels.now
+    ghost view = { λ s. map
+        (λ label. link s.bound.now.tree.nodes (codes "DT_N_NODELABEL_") (label, s.owner))
+        s.labels.now
         ++ each (label_facts s.bound.now.tree.nodes) s.index (drop s.index s.bound.now.tree.nodes) };
 }
 
 impl<'a> LabelRows<'a> {
     fn next(&mut self, fact: &mut Fact<'a>) -> bool
-        ensures { MatchBool result (self.old ≡ fact.new ∷ self.new) ((self.old ≡ []) × (self.new ≡ [])) }
+        ensures { MatchBool result (self.old ≡ fact.new ∷ self.new) ((self.old ≡ [])
+            × (self.new ≡ [])) }
     {
         loop {
             if let Some((label, rest)) = self.labels.split_first() {
@@ -103,7 +107,8 @@ impl<'a> Model for ChosenRows<'a> {
 
 impl<'a> ChosenRows<'a> {
     fn next(&mut self, fact: &mut Fact<'a>) -> bool
-        ensures { MatchBool result (self.old ≡ fact.new ∷ self.new) ((self.old ≡ []) × (self.new ≡ [])) }
+        ensures { MatchBool result (self.old ≡ fact.new ∷ self.new) ((self.old ≡ [])
+            × (self.new ≡ [])) }
     {
         if self.exists.next(fact) {
             return true;
@@ -187,7 +192,8 @@ impl<'a> TreeRows<'a> {
     }
 
     fn next(&mut self, fact: &mut Fact<'a>) -> bool
-        ensures { MatchBool result (self.old ≡ fact.new ∷ self.new) ((self.old ≡ []) × (self.new ≡ [])) }
+        ensures { MatchBool result (self.old ≡ fact.new ∷ self.new) ((self.old ≡ [])
+            × (self.new ≡ [])) }
     {
         if self.aliases.next(fact) {
             return true;
@@ -206,7 +212,8 @@ impl<'a> TreeRows<'a> {
 }
 
 fn alias_rows(bound: &Bound) -> AliasRows<'_>
-    ensures { result ≡ map (link bound.now.tree.nodes (codes "DT_N_ALIAS_")) bound.now.tree.aliases }
+    ensures { result
+        ≡ map (link bound.now.tree.nodes (codes "DT_N_ALIAS_")) bound.now.tree.aliases }
 {
     AliasRows {
         bound,
@@ -245,7 +252,7 @@ pub(crate) struct TitledTree<'a> {
 impl<'a> Model for TitledTree<'a> {
     ghost use Rattle.std.specs.Prelude.{List, option_map};
     ghost use Rattle.dt_names.specs.Facts.{FactData};
-    ghost use Rattle.dt_names.specs.Rows.{titled_by};
+    ghost use Rattle.dt_names.specs.Inner.Rows.{titled_by};
 
     ghost Value = { List FactData };
 
@@ -265,7 +272,8 @@ impl<'a> TitledTree<'a> {
 
     /// Puts the next definition into `fact`; false exactly where none is left.
     pub(crate) fn next(&mut self, fact: &mut Fact<'a>) -> bool
-        ensures { MatchBool result (self.old ≡ fact.new ∷ self.new) ((self.old ≡ []) × (self.new ≡ [])) }
+        ensures { MatchBool result (self.old ≡ fact.new ∷ self.new) ((self.old ≡ [])
+            × (self.new ≡ [])) }
     {
         if !self.rows.next(fact) {
             return false;

@@ -42,8 +42,8 @@ impl<'a> Id<'a> {
     }
 }
 
-/// The name of a property or an entry, whose form's length is known: a name can be long, and stands in
-/// the definitions of each element or cell.
+/// The name of a property or an entry, whose form's length is known: a name can be long, and stands
+/// in the definitions of each element or cell.
 #[derive(Clone, Copy)]
 pub(crate) struct Name<'a> {
     /// The name.

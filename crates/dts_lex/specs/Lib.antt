@@ -1,6 +1,6 @@
-pub mod Left
 pub mod Between
+pub mod Inner
+pub mod Left
 pub mod Names
-pub mod Tokens
-pub mod Counts
 pub mod Slices
+pub mod Tokens

@@ -65,7 +65,7 @@ pub struct Lexer<'a> {
 impl<'a> Model for Lexer<'a> {
     ghost use Rattle.std.specs.Prelude.{◌<◌, ◌+◌, ◌^◌, length};
     ghost use Rattle.dts_lex.specs.Left.{Left};
-    ghost use Rattle.dts_lex.specs.Counts.{AreAtMost, IsKnown};
+    ghost use Rattle.dts_lex.specs.Inner.Counts.{AreAtMost, IsKnown};
 
     ghost Value = { Left };
 

@@ -4,7 +4,7 @@ ghost use Rattle.std.specs.Prelude.{◌≡◌, ◌≤◌, ◌<◌, ◌+◌, ◌^
 ghost use Rattle.dts_lex.specs.Left.{nothing_open};
 ghost use Rattle.dts_lex.specs.Tokens.{at_least, behind, behind_directive, behind_sign, below};
 ghost use Rattle.dts_lex.specs.Tokens.{in_rounds, is_narrow};
-ghost use Rattle.dts_lex.specs.Counts.{AreAtMost};
+ghost use Rattle.dts_lex.specs.Inner.Counts.{AreAtMost};
 
 use crate::lexer::SpanKind;
 

@@ -4,7 +4,7 @@ ghost use Rattle.std.specs.Prelude.{◌≡◌, ◌≤◌, ◌<◌, ◌+◌, leng
 ghost use Rattle.std.specs.Prelude.{false, IfSome, IsTrue};
 ghost use Rattle.std.specs.List.{prefix_len};
 ghost use Rattle.edt_base.specs.SourceBytes.{is_hex, is_octal};
-ghost use Rattle.dts_lex.specs.Counts.{IsKnown};
+ghost use Rattle.dts_lex.specs.Inner.Counts.{IsKnown};
 ghost use Rattle.dts_lex.specs.Tokens.{at_colon, at_pair, at_quote, at_word, behind, char};
 ghost use Rattle.dts_lex.specs.Tokens.{char_size, escape, escapes, found, in_rounds, is_narrow};
 ghost use Rattle.dts_lex.specs.Tokens.{is_no_brace, is_word_byte, mark, pair, path_reference};

@@ -2,7 +2,7 @@
 use Rattle.std.proofs.Common.{◌≡◌, ◌<◌, ◌≤◌, ℕ, zero, suc, Bool, true, false, List, refl, ◌∙◌, nat_le, arith}
 use Rattle.std.proofs.lemmas.Bool.{leb-true, leb-false}
 use Rattle.dts_parse.specs.Exprs.{Tree, Un, Bin, Cond, IsProper, Waiting, Start, In_round, In_un, In_bin, In_cond, In_else, AreProper, below, count, count_waiting, large, large_waiting, level, room, rounds, spell, spell_waiting, worth_of}
-use Rattle.dts_parse.specs.Machine.{climbed}
+use Rattle.dts_parse.specs.Inner.Machine.{climbed}
 use Rattle.dts_parse.specs.Token.{Token, op_level}
 use Rattle.dts_parse.specs.Worth.{bin, cond}
 use Rattle.dts_parse.specs.declared.mode.Frame.TheVariants as frame

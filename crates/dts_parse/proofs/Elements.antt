@@ -3,7 +3,8 @@ use Rattle.std.proofs.Common.{◌≡◌, ℕ, suc, Bool, true, false, ◌&&◌, 
 use Rattle.std.specs.Prelude.{◌⊎◌}
 use Rattle.dts_parse.specs.Exprs.{Literal, Small, Large, Letter, Tree, Num, Round, Un, Bin, Cond, IsProper, count, large, literal_sign, literal_worth, or_large, spell, worth_of}
 use Rattle.dts_parse.specs.Fronts.{Listed, In_list, braces, is_opening, spell_listed}
-use Rattle.dts_parse.specs.Machine.{Fault, Shape, Step, closed_round, in_rounds, is_include, limited, put, step, stop, taken, walk}
+use Rattle.dts_parse.specs.Inner.Machine.{Fault, Shape, Step, closed_round, in_rounds, limited, put, step, stop, taken, walk}
+use Rattle.dts_parse.specs.Token.{is_include}
 use Rattle.dts_parse.specs.Token.{Spot, Token, bin_sign, token, un_sign}
 use Rattle.dts_parse.specs.Values.{Element, Lone, Group, Refer, element_place, is_misfit, misfits, spell_element}
 use Rattle.dts_parse.specs.declared.mode.Breach.{Breach}

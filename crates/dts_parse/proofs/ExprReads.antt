@@ -2,7 +2,8 @@
 use Rattle.std.proofs.Common.{◌≡◌, ◌<◌, ◌≤◌, ℕ, zero, suc, Bool, false, List, [], ◌∷◌, Option, Some, None, refl, ap, ◌∙◌, arith}
 use Rattle.std.proofs.lemmas.Bool.{le-leb, lt-leb}
 use Rattle.dts_parse.specs.Exprs.{Literal, Small, Large, Letter, Tree, Num, Round, Un, Bin, Cond, IsProper, below, count, large, level, literal_sign, more, or_large, spell, worth_of}
-use Rattle.dts_parse.specs.Machine.{Climbed, Shape, behind_operand, chosen, climbed, closed_round, is_include, joined, reduced, tested}
+use Rattle.dts_parse.specs.Inner.Machine.{Climbed, Shape, behind_operand, chosen, climbed, closed_round, joined, reduced, tested}
+use Rattle.dts_parse.specs.Token.{is_include}
 use Rattle.dts_parse.specs.Token.{Spot, Token, bin_sign, op_level, token, un_sign}
 use Rattle.dts_parse.specs.declared.expr.BinOp.{BinOp}
 use Rattle.dts_parse.specs.declared.expr.BinOp.TheVariants.{Mul, Div, Rem, Add, Sub, Shl, Shr, Lt, Gt, Le, Ge, Eq, Ne, BitAnd, BitXor, BitOr, And, Or}

@@ -10,7 +10,8 @@ use Rattle.dts_lex.specs.declared.lexer.Span.{Span}
 use Rattle.dts_lex.proofs.SliceLaws.{are_faults_within, are_slices}
 use Rattle.dts_parse.specs.Exprs.{literal_sign, spell}
 use Rattle.dts_parse.specs.Fronts.{Front, At_site, In_list, Listed, expression, in_expression, is_opening, nested, spell_front, spell_listed}
-use Rattle.dts_parse.specs.Machine.{Fault, Shape, Step, in_rounds, is_include, step, stop, taken, walk}
+use Rattle.dts_parse.specs.Inner.Machine.{Fault, Shape, Step, in_rounds, step, stop, taken, walk}
+use Rattle.dts_parse.specs.Token.{is_include}
 use Rattle.dts_parse.specs.Source.{AreTokens, IsBroken, IsFirst, IsS1, IsS2, IsS5, IsS6, IsTooMuch, NoneTakes, token_of}
 use Rattle.dts_parse.specs.Token.{Token, token}
 use Rattle.dts_parse.specs.Values.{Element, Lone, Group, Refer, element_place, spell_element}

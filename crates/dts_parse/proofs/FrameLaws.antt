@@ -4,7 +4,7 @@ use Rattle.std.specs.Prelude.{reverse}
 use Rattle.std.specs.List.{slice_get}
 use Rattle.std.proofs.lemmas.List.{reverse-append}
 use Rattle.std.proofs.lemmas.Option.{slice_get_within}
-use Rattle.dts_parse.specs.Machine.{climbed, reduced}
+use Rattle.dts_parse.specs.Inner.Machine.{climbed, reduced}
 use Rattle.dts_parse.specs.declared.mode.Frame.{Frame}
 use Rattle.dts_parse.proofs.ExprReads.{climbed_some}
 

@@ -2,7 +2,7 @@
 use Rattle.std.proofs.Common.{◌≡◌, ◌≤◌, ℕ, suc, Bool, true, false, not, ◌&&◌, ◌||◌, List, [], ◌∷◌, ◌++◌, Some, Ok, refl, sym, subst, ◌∙◌, arith}
 use Rattle.dts_parse.specs.Exprs.{Waiting, Start, In_round, In_un, In_bin, In_cond, In_else, AreProper, IsProper, Tree, count, count_waiting, large, large_waiting, level, more, room, rounds, spell, spell_waiting, worth_of}
 use Rattle.dts_parse.specs.Fronts.{Beginning, Begun, First_number, Second_number, Deleted_ref, Omitted_ref, Deleted_child, Deleted_prop, Front, In_body, At_name, At_brace, At_directive, At_end, At_site, At_colon, At_bits, At_angle, Before_operand, After_operand, Listed, Opening, Root_, Ref_, Site, In_value, After_part, In_list, In_hex, braces, directive_place, fits_lead, may_name, opening_token, spell_beginning, spell_begun, spell_front, spell_list, spell_listed, spell_site, takes_begun, wanted_of}
-use Rattle.dts_parse.specs.Machine.{Shape, taken}
+use Rattle.dts_parse.specs.Inner.Machine.{Shape, taken}
 use Rattle.dts_parse.specs.Statements.{AreFit, Lead, No_lead, Label_lead, Mark_lead, Small_, Large_, Pieces, Nothing_yet, Short_, Open_root, Open_ref, Open_child, Flag_, Assign_, Place, Short, Version_, Plugin_, Reserve_, Delete_ref, Omit_ref, Delete_child, Delete_prop, End_node, is_empty, labels_of, marks_of, place, script, spell_lead, spell_pieces, spell_short, takes_inner, takes_short, takes_top, takes_version}
 use Rattle.dts_parse.specs.Token.{Name, Spot, is_node_form, is_prop_form, bin_sign, name_token, op_level, token}
 use Rattle.dts_parse.specs.Values.{Before, Labels, No_labels, bytes_of, cells_of, listing_of, pair_bytes, part_of, parts_of}

@@ -2,7 +2,7 @@
 use Rattle.std.proofs.Common.{suc, Bool, true, List, [], ◌∷◌, ◌++◌, Some}
 use Rattle.dts_parse.specs.Exprs.{Tree, Num, Round, Un, Bin, Cond, Waiting, Start, In_round, In_un, In_bin, In_cond, In_else, count, count_waiting, large, large_waiting, rounds, worth_of, literal_worth}
 use Rattle.dts_parse.specs.Fronts.{Beginning, Front, In_body, At_name, At_brace, At_directive, At_end, At_site, At_colon, At_bits, At_angle, Before_operand, After_operand, Site, In_value, After_part, In_list, In_hex, Opening, Root_, Ref_, braces, directive_place, wanted_of}
-use Rattle.dts_parse.specs.Machine.{Climbed, Shape, start}
+use Rattle.dts_parse.specs.Inner.Machine.{Climbed, Shape, start}
 use Rattle.dts_parse.specs.Statements.{Pieces, Short, labels_of, marks_of, place, place_behind, script, with_short}
 use Rattle.dts_parse.specs.StmtData.{StmtData, Open, stmt}
 use Rattle.dts_parse.specs.Texts.{target_of}

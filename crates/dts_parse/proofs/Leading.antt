@@ -1,7 +1,8 @@
 -- Steps that lead to a shape, or to a fault that a longer text can't lift.
 use Rattle.std.proofs.Common.{◌≡◌, Bool, true, false, ◌&&◌, List, ◌∷◌, Ok, Err, refl, sym, subst, nat_le, if◌then◌else◌}
 use Rattle.dts_parse.specs.Fronts.{is_opening}
-use Rattle.dts_parse.specs.Machine.{Shape, Step, in_rounds, is_include, limited, limited_by, step, step_on, stop, taken, walk}
+use Rattle.dts_parse.specs.Inner.Machine.{Shape, Step, in_rounds, limited, limited_by, step, step_on, stop, taken, walk}
+use Rattle.dts_parse.specs.Token.{is_include}
 use Rattle.dts_parse.specs.Token.{Spot, Token}
 use Rattle.dts_parse.specs.declared.mode.Breach.{Breach}
 use Rattle.dts_parse.specs.declared.mode.Breach.TheVariants.{S1, S2, S5, S6}

@@ -1,17 +1,16 @@
 -- The script of a source nests well.
-use Rattle.std.proofs.Common.{◌≡◌, ℕ, zero, suc, Bool, true, false, not, ◌&&◌, ◌||◌, List, [], ◌∷◌, ◌++◌, Option, Some, None, drop, take, nat_eq, refl, sym, ap, subst, ◌∙◌, append_assoc, unwrap_or, if◌then◌else◌}
+use Rattle.std.proofs.Common.{◌≡◌, ℕ, zero, suc, Bool, true, false, not, ◌&&◌, ◌||◌, List, [], ◌∷◌, ◌++◌, Option, Some, None, drop, length, take, nat_eq, arith, refl, sym, ap, subst, ◌∙◌, append_assoc, unwrap_or, if◌then◌else◌}
 use Rattle.std.specs.Option.{option_and_then}
-use Rattle.std.specs.List.{list_all, list_any, prefix_len}
+use Rattle.std.specs.List.{list_all, prefix_len}
 use Rattle.std.proofs.lemmas.Bool.{and_from, and_parts, eqb-true}
-use Rattle.std.proofs.lemmas.List.{take-append-drop}
-use Rattle.edt_base.specs.SourceBytes.{is_node_byte, is_plain, begins_label}
+use Rattle.edt_base.specs.SourceBytes.{is_node_byte, is_plain, is_prop_byte, begins_label}
 use Rattle.edt_base.specs.SourceNames.{is_label, is_no_at, is_node_name, is_node_word, is_prop_name, is_unit}
 use Rattle.dts_parse.specs.Exprs.{literal_worth, worth_of}
-use Rattle.dts_parse.specs.Nested.{act_refs, ends_with_zero, fits_place, is_even, is_good_cell, is_good_name, is_good_part, is_reference, nest, nested, refs}
+use Rattle.dts_parse.specs.Nested.{act_refs, ends_with_zero, fits_place, is_even, is_good_cell, is_good_part, is_reference, nest, nested, refs}
 use Rattle.dts_parse.specs.Statements.{AreFit, Lead, No_lead, Label_lead, Mark_lead, Pieces, Nothing_yet, Short_, Open_root, Open_ref, Open_child, Flag_, Assign_, Short, Version_, Plugin_, Reserve_, Delete_ref, Omit_ref, Delete_child, Delete_prop, End_node, below, head, is_empty, labels_of, marks_of, omits, place, place_behind, script, tail, takes_top, with_short}
-use Rattle.dts_parse.specs.StmtData.{ActData, StmtData, Open, Close, Assign, DelProp, DelNode, Omit, stmt}
+use Rattle.dts_parse.specs.StmtData.{ActData, StmtData, Open, Close, Label, Assign, DelProp, DelNode, Omit, stmt}
 use Rattle.dts_parse.specs.Texts.{begins_path, element_bytes, target_of, unescaped, within}
-use Rattle.dts_parse.specs.Token.{Name, is_ascii, is_node_form, name_form}
+use Rattle.dts_parse.specs.Token.{Name, is_ascii, is_node_form, is_prop_form, name_form}
 use Rattle.dts_parse.specs.Values.{Before, Nothing, Comma_, Lone, Group, Refer, Elements, None_yet, Then, Written, Text_, Path_, List_, Hex_, bytes_of, cells_of, cells_with, list_data, part_of, parts_of}
 use Rattle.dts_parse.specs.declared.script.RawCell.{RawCell}
 use Rattle.dts_parse.specs.declared.script.Target.{Target}
@@ -37,33 +36,6 @@ refs_append (x ∷ xs) ys = ap (λ zs. act_refs x.at x.act ++ zs) (refs_append x
 
 -- ---- names
 
-is_no_slash : (b : ℕ) → is_node_byte b ≡ true → nat_eq 47 b ≡ false
-is_no_slash b h = slash_cases b (nat_eq 47 b) refl h
-  where
-    slash_cases : (b : ℕ) (t : Bool) → nat_eq 47 b ≡ t → is_node_byte b ≡ true → nat_eq 47 b ≡ false
-    slash_cases b false e h = e
-    slash_cases b true e h = let same : 47 ≡ b = eqb-true 47 b e in let n : is_node_byte 47 ≡ true = subst (λ (x : ℕ). is_node_byte x ≡ true) (sym same) h in cc
-
-no_slash : (xs : List ℕ) → list_all is_node_byte xs ≡ true → list_any (nat_eq 47) xs ≡ false
-no_slash [] h = refl
-no_slash (x ∷ xs) h = let k : (is_node_byte x ≡ true) × (list_all is_node_byte xs ≡ true) = and_parts _ _ h in or_none (nat_eq 47 x) (list_any (nat_eq 47) xs) (is_no_slash x k.0) (no_slash xs k.1)
-  where
-    or_none : (a b : Bool) → a ≡ false → b ≡ false → (a || b) ≡ false
-    or_none true b e f = cc
-    or_none false b e f = f
-
-slash_append : (xs ys : List ℕ) → list_any (nat_eq 47) xs ≡ false → list_any (nat_eq 47) ys ≡ false → list_any (nat_eq 47) (xs ++ ys) ≡ false
-slash_append [] ys h k = k
-slash_append (x ∷ xs) ys h k = split (nat_eq 47 x) h (λ g. slash_append xs ys g k)
-  where
-    split : (t : Bool) → (t || list_any (nat_eq 47) xs) ≡ false → (list_any (nat_eq 47) xs ≡ false → list_any (nat_eq 47) (xs ++ ys) ≡ false) → (t || list_any (nat_eq 47) (xs ++ ys)) ≡ false
-    split true h go = cc
-    split false h go = go h
-
-good_of : (xs : List ℕ) → list_any (nat_eq 47) xs ≡ false → (xs ≡ [] → ⊥) → is_good_name xs ≡ true
-good_of [] h n = absurd (n refl)
-good_of (x ∷ xs) h n = ap (λ b. not b) h
-
 plain_node : (xs : List ℕ) → list_all is_plain xs ≡ true → list_all is_node_byte xs ≡ true
 plain_node [] h = refl
 plain_node (x ∷ xs) h = let k : (is_plain x ≡ true) × (list_all is_plain xs ≡ true) = and_parts _ _ h in and_from (is_node_byte x) (list_all is_node_byte xs) (plain_is x k.0) (plain_node xs k.1)
@@ -71,58 +43,111 @@ plain_node (x ∷ xs) h = let k : (is_plain x ≡ true) × (list_all is_plain xs
     plain_is : (b : ℕ) → is_plain b ≡ true → is_node_byte b ≡ true
     plain_is b e = rw e refl
 
-label_good : (text : List ℕ) → is_label text ≡ true → is_good_name text ≡ true
-label_good [] h = cc
-label_good (b ∷ rest) h =
+begins_plain : (b : ℕ) → begins_label b ≡ true → is_plain b ≡ true
+begins_plain b e = rw e refl
+
+label_plain : (text : List ℕ) → is_label text ≡ true → list_all is_plain text ≡ true
+label_plain [] h = cc
+label_plain (b ∷ rest) h =
     let k : (begins_label b ≡ true) × (list_all is_plain rest ≡ true) = and_parts _ _ h in
-    good_of (b ∷ rest) (no_slash (b ∷ rest) (and_from (is_node_byte b) (list_all is_node_byte rest) (begins_is b k.0) (plain_node rest k.1))) (λ e. cc)
+    and_from (is_plain b) (list_all is_plain rest) (begins_plain b k.0) k.1
+
+-- no byte of a label is an `@`
+plain_no_at : (b : ℕ) → is_plain b ≡ true → is_no_at b ≡ true
+plain_no_at b h = by_at (nat_eq b 64) refl
   where
-    begins_is : (b : ℕ) → begins_label b ≡ true → is_node_byte b ≡ true
-    begins_is b e = rw e refl
+    by_at : (t : Bool) → nat_eq b 64 ≡ t → not t ≡ true
+    by_at false e = refl
+    by_at true e = let same : b ≡ 64 = eqb-true b 64 e in let n : is_plain 64 ≡ true = subst (λ (x : ℕ). is_plain x ≡ true) same h in cc
 
-word_slash : (xs : List ℕ) → is_node_word xs ≡ true → list_any (nat_eq 47) xs ≡ false
-word_slash [] h = refl
-word_slash (x ∷ xs) h = no_slash (x ∷ xs) h
+no_at : (xs : List ℕ) → list_all is_plain xs ≡ true → prefix_len is_no_at xs ≡ length xs
+no_at [] h = refl
+no_at (x ∷ xs) h = let k : (is_plain x ≡ true) × (list_all is_plain xs ≡ true) = and_parts _ _ h in rw (plain_no_at x k.0) (omega (arith, no_at xs k.1))
 
-word_some : (xs : List ℕ) → is_node_word xs ≡ true → xs ≡ [] → ⊥
-word_some [] h e = cc
-word_some (x ∷ xs) h e = cc
+all_taken : (xs : List ℕ) → take (length xs) xs ≡ xs
+all_taken [] = refl
+all_taken (x ∷ xs) = ap (λ ys. x ∷ ys) (all_taken xs)
 
-unit_slash : (xs : List ℕ) → is_unit xs ≡ true → list_any (nat_eq 47) xs ≡ false
-unit_slash [] h = refl
-unit_slash (b ∷ rest) h =
-    let k : (nat_eq b 64 ≡ true) × (is_node_word rest ≡ true) = and_parts _ _ h in
-    let same : b ≡ 64 = eqb-true b 64 k.0 in
-    let test : nat_eq 47 b ≡ false = (let F : ℕ → Bool = λ x. nat_eq 47 x in ap F same) in
-    rw test (word_slash rest k.1)
+all_dropped : (xs : List ℕ) → drop (length xs) xs ≡ []
+all_dropped [] = refl
+all_dropped (x ∷ xs) = all_dropped xs
 
-node_good : (text : List ℕ) → is_node_name text ≡ true → is_good_name text ≡ true
-node_good text h =
-    let n : ℕ = prefix_len is_no_at text in
-    let k : (is_node_word (take n text) ≡ true) × (is_unit (drop n text) ≡ true) = and_parts _ _ h in
-    let parts : take n text ++ drop n text ≡ text = take-append-drop n text in
-    let no : list_any (nat_eq 47) text ≡ false = subst (λ (xs : List ℕ). list_any (nat_eq 47) xs ≡ false) parts (slash_append (take n text) (drop n text) (word_slash (take n text) k.0) (unit_slash (drop n text) k.1)) in
-    good_of text no (λ e. word_some (take n text) k.0 (subst (λ (xs : List ℕ). take n xs ≡ []) (sym e) (take_nil n)))
+plain_word : (xs : List ℕ) → (xs ≡ [] → ⊥) → list_all is_plain xs ≡ true → is_node_word xs ≡ true
+plain_word [] n h = absurd (n refl)
+plain_word (x ∷ xs) n h = plain_node (x ∷ xs) h
+
+label_some : (text : List ℕ) → is_label text ≡ true → text ≡ [] → ⊥
+label_some [] h e = cc
+label_some (b ∷ rest) h e = cc
+
+-- a label can be a node's name
+label_node : (text : List ℕ) → is_label text ≡ true → is_node_name text ≡ true
+label_node text h =
+    let plain : list_all is_plain text ≡ true = label_plain text h in
+    let whole : prefix_len is_no_at text ≡ length text = no_at text plain in
+    let word : is_node_word (take (length text) text) ≡ true = subst (λ (xs : List ℕ). is_node_word xs ≡ true) (sym (all_taken text)) (plain_word text (label_some text h) plain) in
+    let unit : is_unit (drop (length text) text) ≡ true = subst (λ (xs : List ℕ). is_unit xs ≡ true) (sym (all_dropped text)) refl in
+    subst (λ (n : ℕ). (is_node_word (take n text) && is_unit (drop n text)) ≡ true) (sym whole) (and_from _ _ word unit)
+
+-- and a property's
+plain_prop : (xs : List ℕ) → list_all is_plain xs ≡ true → list_all is_prop_byte xs ≡ true
+plain_prop [] h = refl
+plain_prop (x ∷ xs) h = let k : (is_plain x ≡ true) × (list_all is_plain xs ≡ true) = and_parts _ _ h in and_from (is_prop_byte x) (list_all is_prop_byte xs) (plain_is x k.0) (plain_prop xs k.1)
   where
-    take_nil : (m : ℕ) → take {A = ℕ} m [] ≡ []
-    take_nil zero = refl
-    take_nil (suc m) = refl
+    plain_is : (b : ℕ) → is_plain b ≡ true → is_prop_byte b ≡ true
+    plain_is b e = rw e refl
 
--- a node's name is good
-child_good : (f : Form) (n : Name f) → is_node_form f ≡ true → is_good_name n.spot.text ≡ true
-child_good f n is = by_ascii (list_all is_ascii n.spot.text) n.is
+label_prop : (text : List ℕ) → is_label text ≡ true → is_prop_name text ≡ true
+label_prop [] h = cc
+label_prop (b ∷ rest) h = plain_prop (b ∷ rest) (label_plain (b ∷ rest) h)
+
+-- the name of a child is a node's
+child_named : (f : Form) (n : Name f) → is_node_form f ≡ true → is_node_name n.spot.text ≡ true
+child_named f n is = by_ascii (list_all is_ascii n.spot.text) n.is
   where
-    by_node : (b c : Bool) → is_node_name n.spot.text ≡ b → (if b then (if c then Some form.Both else Some form.Node) else if c then Some form.Prop else None) ≡ Some f → is_good_name n.spot.text ≡ true
-    by_node true c e h = node_good n.spot.text e
+    by_node : (b c : Bool) → is_node_name n.spot.text ≡ b → (if b then (if c then Some form.Both else Some form.Node) else if c then Some form.Prop else None) ≡ Some f → is_node_name n.spot.text ≡ true
+    by_node true c e h = e
     by_node false true e h = let same : form.Prop ≡ f = cc in let k : is_node_form form.Prop ≡ true = (let P : Form → Type 0 = λ x. is_node_form x ≡ true in subst P (sym same) is) in cc
     by_node false false e h = cc
 
-    by_label : (b : Bool) → is_label n.spot.text ≡ b → (if b then Some form.Label else if is_node_name n.spot.text then (if is_prop_name n.spot.text then Some form.Both else Some form.Node) else if is_prop_name n.spot.text then Some form.Prop else None) ≡ Some f → is_good_name n.spot.text ≡ true
-    by_label true e h = label_good n.spot.text e
+    by_label : (b : Bool) → is_label n.spot.text ≡ b → (if b then Some form.Label else if is_node_name n.spot.text then (if is_prop_name n.spot.text then Some form.Both else Some form.Node) else if is_prop_name n.spot.text then Some form.Prop else None) ≡ Some f → is_node_name n.spot.text ≡ true
+    by_label true e h = label_node n.spot.text e
     by_label false e h = by_node (is_node_name n.spot.text) (is_prop_name n.spot.text) refl h
 
-    by_ascii : (b : Bool) → (if b then name_form n.spot.text else None) ≡ Some f → is_good_name n.spot.text ≡ true
+    by_ascii : (b : Bool) → (if b then name_form n.spot.text else None) ≡ Some f → is_node_name n.spot.text ≡ true
     by_ascii true h = by_label (is_label n.spot.text) refl h
+    by_ascii false h = cc
+
+-- the name of a property is one
+prop_named : (f : Form) (n : Name f) → is_prop_form f ≡ true → is_prop_name n.spot.text ≡ true
+prop_named f n is = by_ascii (list_all is_ascii n.spot.text) n.is
+  where
+    by_node : (b c : Bool) → is_prop_name n.spot.text ≡ c → (if b then (if c then Some form.Both else Some form.Node) else if c then Some form.Prop else None) ≡ Some f → is_prop_name n.spot.text ≡ true
+    by_node b true e h = e
+    by_node true false e h = let same : form.Node ≡ f = cc in let k : is_prop_form form.Node ≡ true = (let P : Form → Type 0 = λ x. is_prop_form x ≡ true in subst P (sym same) is) in cc
+    by_node false false e h = cc
+
+    by_label : (b : Bool) → is_label n.spot.text ≡ b → (if b then Some form.Label else if is_node_name n.spot.text then (if is_prop_name n.spot.text then Some form.Both else Some form.Node) else if is_prop_name n.spot.text then Some form.Prop else None) ≡ Some f → is_prop_name n.spot.text ≡ true
+    by_label true e h = label_prop n.spot.text e
+    by_label false e h = by_node (is_node_name n.spot.text) (is_prop_name n.spot.text) refl h
+
+    by_ascii : (b : Bool) → (if b then name_form n.spot.text else None) ≡ Some f → is_prop_name n.spot.text ≡ true
+    by_ascii true h = by_label (is_label n.spot.text) refl h
+    by_ascii false h = cc
+
+-- the name of a label is one
+label_named : (n : Name form.Label) → is_label n.spot.text ≡ true
+label_named n = by_ascii (list_all is_ascii n.spot.text) n.is
+  where
+    by_label : (b c d : Bool) → is_label n.spot.text ≡ b → (if b then Some form.Label else if c then (if d then Some form.Both else Some form.Node) else if d then Some form.Prop else None) ≡ Some form.Label → is_label n.spot.text ≡ true
+    by_label true c d e h = e
+    by_label false true true e h = cc
+    by_label false true false e h = cc
+    by_label false false true e h = cc
+    by_label false false false e h = cc
+
+    by_ascii : (b : Bool) → (if b then name_form n.spot.text else None) ≡ Some form.Label → is_label n.spot.text ≡ true
+    by_ascii true h = by_label (is_label n.spot.text) (is_node_name n.spot.text) (is_prop_name n.spot.text) refl h
     by_ascii false h = cc
 
 -- ---- references
@@ -203,10 +228,12 @@ good_parts (Comma_ b ls part after comma) = all_append is_good_part (parts_of b)
 
 labels_nest : (lead : Lead) (d : ℕ) → nested (suc d) (labels_of lead) ≡ Some (suc d)
 labels_nest No_lead d = refl
-labels_nest (Label_lead lead n c) d = nested_two (suc d) (suc d) (suc d) (labels_of lead) _ (labels_nest lead d) refl
+labels_nest (Label_lead lead n c) d =
+    let one : nested (suc d) (stmt n.spot.at (Label n.spot.text) ∷ []) ≡ Some (suc d) = rw (label_named n) refl in
+    nested_two (suc d) (suc d) (suc d) (labels_of lead) _ (labels_nest lead d) one
 labels_nest (Mark_lead lead m) d = labels_nest lead d
 
-omits_nest : (marks : List ℕ) (name : List ℕ) (d : ℕ) → is_good_name name ≡ true → nested (suc d) (omits marks name) ≡ Some (suc d)
+omits_nest : (marks : List ℕ) (name : List ℕ) (d : ℕ) → is_node_name name ≡ true → nested (suc d) (omits marks name) ≡ Some (suc d)
 omits_nest [] name d good = refl
 omits_nest (at ∷ marks) name d good = rw good (omits_nest marks name d good)
 
@@ -277,12 +304,12 @@ short_nests base ps (Omit_ref d r) fit h =
     (nested_two 0 (place base ps).depth (place base ps).depth (script base ps) _ h.nests (ref_nests (place base ps).depth r.at r.text (λ t. Omit t) e (λ t q. rw q refl)), h.stack)
 short_nests base ps (Delete_child d f n is) fit h =
     let i : Inner (place base ps).opened (place base ps).depth = inner (place base ps).opened (place base ps).depth fit.1 h.stack in
-    let good : is_good_name n.spot.text ≡ true = child_good f n is in
+    let good : is_node_name n.spot.text ≡ true = child_named f n is in
     let one : nested (suc i.e) (stmt d.at (DelNode (target.Child n.spot.text)) ∷ []) ≡ Some (suc i.e) = rw good refl in
     (nested_two 0 (place base ps).depth (place base ps).depth (script base ps) _ h.nests (stays_inner (place base ps).depth i.e (stmt d.at (DelNode (target.Child n.spot.text)) ∷ []) i.depth one), h.stack)
 short_nests base ps (Delete_prop d f n is) fit h =
     let i : Inner (place base ps).opened (place base ps).depth = inner (place base ps).opened (place base ps).depth fit.1 h.stack in
-    let one : nested (suc i.e) (stmt d.at (DelProp n.spot.text) ∷ []) ≡ Some (suc i.e) = refl in
+    let one : nested (suc i.e) (stmt d.at (DelProp n.spot.text) ∷ []) ≡ Some (suc i.e) = rw (prop_named f n is) refl in
     (nested_two 0 (place base ps).depth (place base ps).depth (script base ps) _ h.nests (stays_inner (place base ps).depth i.e (stmt d.at (DelProp n.spot.text) ∷ []) i.depth one), h.stack)
 short_nests base ps (End_node brace) fit h =
     let i : Inner (place base ps).opened (place base ps).depth = inner (place base ps).opened (place base ps).depth fit.1 h.stack in
@@ -316,7 +343,7 @@ nests_pieces base (Open_ref ps lead ref brace) fit =
 nests_pieces base (Open_child ps lead f n brace) fit =
     let h : Nests base ps = nests_pieces base ps fit.0 in
     let i : Inner (place base ps).opened (place base ps).depth = inner (place base ps).opened (place base ps).depth fit.1 h.stack in
-    let good : is_good_name n.spot.text ≡ true = child_good f n fit.2 in
+    let good : is_node_name n.spot.text ≡ true = child_named f n fit.2 in
     record {
       nests = nests_on (place base ps).depth (suc (place base ps).depth) (script base ps) (stmt n.spot.at (Open (target.Child n.spot.text))) (labels_of lead) h.nests
           (opening_nests (target.Child n.spot.text) n.spot.at lead (place base ps).depth (subst (λ (k : ℕ). fits_place k (target.Child n.spot.text) ≡ true) (sym i.depth) good));
@@ -325,7 +352,7 @@ nests_pieces base (Open_child ps lead f n brace) fit =
 nests_pieces base (Flag_ ps lead f n semicolon) fit =
     let h : Nests base ps = nests_pieces base ps fit.0 in
     let i : Inner (place base ps).opened (place base ps).depth = inner (place base ps).opened (place base ps).depth fit.1 h.stack in
-    let one : nested (suc i.e) (stmt n.spot.at (Assign n.spot.text []) ∷ []) ≡ Some (suc i.e) = refl in
+    let one : nested (suc i.e) (stmt n.spot.at (Assign n.spot.text []) ∷ []) ≡ Some (suc i.e) = rw (prop_named f n fit.3) refl in
     record {
       nests = nested_two 0 (place base ps).depth (place base ps).depth (script base ps) _ h.nests (stays_inner (place base ps).depth i.e (stmt n.spot.at (Assign n.spot.text []) ∷ []) i.depth one);
       stack = h.stack;
@@ -334,7 +361,7 @@ nests_pieces base (Assign_ ps lead f n equal b ls part after semicolon) fit =
     let h : Nests base ps = nests_pieces base ps fit.0 in
     let i : Inner (place base ps).opened (place base ps).depth = inner (place base ps).opened (place base ps).depth fit.1 h.stack in
     let good : list_all is_good_part (parts_of b ++ part_of part ∷ []) ≡ true = all_append is_good_part (parts_of b) _ (good_parts b) (and_from (is_good_part (part_of part)) true (good_part part) refl) in
-    let one : nested (suc i.e) (stmt n.spot.at (Assign n.spot.text (parts_of b ++ part_of part ∷ [])) ∷ []) ≡ Some (suc i.e) = rw good refl in
+    let one : nested (suc i.e) (stmt n.spot.at (Assign n.spot.text (parts_of b ++ part_of part ∷ [])) ∷ []) ≡ Some (suc i.e) = rw (prop_named f n fit.3, good) refl in
     record {
       nests = nested_two 0 (place base ps).depth (place base ps).depth (script base ps) _ h.nests (stays_inner (place base ps).depth i.e (stmt n.spot.at (Assign n.spot.text (parts_of b ++ part_of part ∷ [])) ∷ []) i.depth one);
       stack = h.stack;

@@ -6,9 +6,9 @@ use Rattle.dts_lex.specs.Tokens.{next_of}
 use Rattle.dts_lex.specs.declared.lexer.LexFault.{LexFault}
 use Rattle.dts_lex.specs.declared.lexer.Span.{Span}
 use Rattle.dts_lex.proofs.SliceLaws.{are_slices}
-use Rattle.dts_parse.specs.Machine.{Fault, Shape, is_whole, start, step}
-use Rattle.dts_parse.specs.Outcome.{IsAnswer, IsSoFar, IsStop}
-use Rattle.dts_parse.specs.Shown.{Leaves}
+use Rattle.dts_parse.specs.Inner.Machine.{Fault, Shape, is_whole, start, step}
+use Rattle.dts_parse.specs.Inner.Outcome.{IsAnswer, IsSoFar, IsStop}
+use Rattle.dts_parse.specs.Inner.Shown.{Leaves}
 use Rattle.dts_parse.specs.Source.{IsFirst, NoneTakes, token_of}
 use Rattle.dts_parse.specs.Token.{Token}
 use Rattle.dts_parse.specs.declared.mode.Breach.{Breach}

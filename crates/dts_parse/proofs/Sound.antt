@@ -4,7 +4,7 @@ use Rattle.std.proofs.lemmas.Bool.{and_parts}
 use Rattle.std.specs.List.{list_all}
 use Rattle.dts_parse.specs.Exprs.{Small, Large, Letter, Tree, Num, Round, Un, Bin, Cond, IsProper, Waiting, Start, In_round, In_un, In_bin, In_cond, In_else, AreProper, count, count_waiting, large, large_waiting, level, more, room, rounds, spell, spell_waiting, worth_of}
 use Rattle.dts_parse.specs.Fronts.{Beginning, Begun, First_number, Second_number, Deleted_ref, Omitted_ref, Deleted_child, Deleted_prop, Front, In_body, At_name, At_brace, At_directive, At_end, At_site, At_colon, At_bits, At_angle, Before_operand, After_operand, Listed, Opening, Root_, Ref_, Site, In_value, After_part, In_list, In_hex, braces, fits_lead, may_name, spell_front, spell_listed, takes_begun}
-use Rattle.dts_parse.specs.Machine.{Shape, Step, at_ref, at_width, behind_operand, chosen, climbed, closed_round, is_bare, joined, put, refused, taken, tested, waits_colon}
+use Rattle.dts_parse.specs.Inner.Machine.{Shape, Step, at_ref, at_width, behind_operand, chosen, climbed, closed_round, is_bare, joined, put, refused, taken, tested, waits_colon}
 use Rattle.dts_parse.specs.Statements.{AreFit, Lead, No_lead, Label_lead, Mark_lead, Small_, Large_, Pieces, Short_, Open_root, Open_ref, Open_child, Flag_, Assign_, Place, Short, Version_, Plugin_, Reserve_, Delete_ref, Omit_ref, Delete_child, Delete_prop, End_node, below, head, is_empty, labels_of, marks_of, place, tail, takes_inner, takes_short, takes_top, takes_version}
 use Rattle.dts_parse.specs.StmtData.{Close, stmt}
 use Rattle.dts_parse.specs.Texts.{width_of}

@@ -5,7 +5,8 @@ use Rattle.std.proofs.lemmas.Bool.{and_parts, leb-true, le-leb}
 use Rattle.dts_lex.specs.Left.{Left}
 use Rattle.dts_lex.specs.declared.lexer.Span.{Span}
 use Rattle.dts_parse.specs.Fronts.{Front, In_body, At_name, At_brace, At_directive, At_end, At_site, At_colon, At_bits, At_angle, Before_operand, After_operand, In_value, After_part, In_list, In_hex, expression, in_expression, is_opening, nested, spell_front}
-use Rattle.dts_parse.specs.Machine.{Fault, Shape, Step, in_rounds, is_include, limited, limited_by, start, step, step_on, stop, taken, walk}
+use Rattle.dts_parse.specs.Inner.Machine.{Fault, Shape, Step, in_rounds, limited, limited_by, start, step, step_on, stop, taken, walk}
+use Rattle.dts_parse.specs.Token.{is_include}
 use Rattle.dts_parse.specs.Source.{AreTokens, IsTooMuch, slice_of, token_of}
 use Rattle.dts_parse.specs.Statements.{No_lead, Nothing_yet}
 use Rattle.dts_parse.specs.Token.{Spot, Token}

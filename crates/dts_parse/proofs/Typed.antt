@@ -9,7 +9,7 @@ use Rattle.dts_parse.specs.Numbers.{digits_worth, is_suffix, number, number_of_d
 use Rattle.dts_parse.specs.Source.{byte_sign, directive_sign, double_sign, name_sign, punct_sign, sign_of}
 use Rattle.dts_parse.specs.Texts.{char_worth, pair_worth}
 use Rattle.dts_parse.specs.Token.{form_of, is_ascii, name_form}
-use Rattle.dts_parse.specs.Signed.{IsSigned}
+use Rattle.dts_parse.specs.Inner.Signed.{IsSigned}
 use Rattle.dts_parse.specs.declared.expr.BinOp.TheVariants as op
 use Rattle.dts_parse.specs.declared.sign.Form.{Form}
 use Rattle.dts_parse.specs.declared.sign.Sign.{Sign}

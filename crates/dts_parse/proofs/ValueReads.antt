@@ -1,7 +1,7 @@
 -- What a value spells is read as its parts.
 use Rattle.std.proofs.Common.{◌≡◌, ℕ, suc, Bool, true, false, List, [], ◌∷◌, ◌++◌, Option, Some, None, Ok, Err, refl, sym, ap, subst, ◌∙◌, if◌then◌else◌}
 use Rattle.dts_parse.specs.Exprs.{Literal, Small, Large, Letter, Tree, IsProper, count, large, literal_sign, literal_worth, spell, worth_of}
-use Rattle.dts_parse.specs.Machine.{Shape, Step, at_ref, at_width, by_mode, climbed, closed_round, labelled, more_labels, put}
+use Rattle.dts_parse.specs.Inner.Machine.{Shape, Step, at_ref, at_width, by_mode, climbed, closed_round, labelled, more_labels, put}
 use Rattle.dts_parse.specs.Values.{Labels, No_labels, Label_, Element, Lone, Group, Refer, Elements, None_yet, Then, Pairs, No_pair, And_pair, Head, Angle_, Bits_, Written, Text_, Path_, List_, Hex_, Before, Nothing, Comma_, bytes_of, bytes_with, cells_of, cells_with, listing_of, may_close, misfits, pair_bytes, pair_listing, part_of, parts_of, spell_before, spell_element, spell_elements, spell_head, spell_labels, spell_pairs, spell_written}
 use Rattle.dts_parse.specs.StmtData.{PartData}
 use Rattle.dts_parse.specs.Texts.{target_of, width_of}

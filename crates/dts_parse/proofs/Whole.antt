@@ -6,7 +6,7 @@ use Rattle.dts_lex.specs.Tokens.{next_of}
 use Rattle.dts_lex.specs.declared.lexer.LexFault.{LexFault}
 use Rattle.dts_lex.specs.declared.lexer.Span.{Span}
 use Rattle.dts_parse.specs.Fronts.{Front, In_body, At_name, At_brace, At_directive, At_end, At_site, At_colon, At_bits, At_angle, Before_operand, After_operand, In_value, After_part, In_list, In_hex, fits_lead, spell_front}
-use Rattle.dts_parse.specs.Machine.{Fault, Shape, Step, is_bare, is_whole, step, step_on, walk}
+use Rattle.dts_parse.specs.Inner.Machine.{Fault, Shape, Step, is_bare, is_whole, step, step_on, walk}
 use Rattle.dts_parse.specs.Source.{AreTokens, BreaksNone, HasOneScript, IsScript, NoneTakes}
 use Rattle.dts_parse.specs.Statements.{AreFit, Lead, No_lead, Label_lead, Mark_lead, Pieces, is_empty, labels_of, marks_of, place, script, spell_pieces, takes_top}
 use Rattle.dts_parse.specs.StmtData.{StmtData}

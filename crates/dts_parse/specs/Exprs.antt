@@ -1,4 +1,5 @@
--- Expressions: their trees, what they spell, and what they are worth. What is spelled stands behind the tokens before it, the last token first.
+-- Expressions: their trees, what they spell, and what they are worth. What is spelled stands behind the tokens before
+-- it, the last token first.
 use Rattle.std.specs.Prelude.{◌≤◌, ◌<◌, ℕ, zero, suc, Bool, true, false, List, ◌∷◌, Option, Some, None, nat_le, option_map, if◌then◌else◌}
 use Rattle.dts_parse.specs.Token.{Token, Spot, token, un_sign, bin_sign, op_level}
 use Rattle.dts_parse.specs.Worth.{un, bin, cond}
@@ -100,7 +101,8 @@ spell_waiting (In_round w begin) before = token sign.LeftRound begin ∷ spell_w
 spell_waiting (In_un w o p) before = token (un_sign o) p ∷ spell_waiting w before
 spell_waiting (In_bin w l o p) before = token (bin_sign o) p ∷ spell l (spell_waiting w before)
 spell_waiting (In_cond w c q) before = token sign.Question q ∷ spell c (spell_waiting w before)
-spell_waiting (In_else w c q a k) before = token sign.Colon k ∷ spell a (token sign.Question q ∷ spell c (spell_waiting w before))
+spell_waiting (In_else w c q a k) before =
+    token sign.Colon k ∷ spell a (token sign.Question q ∷ spell c (spell_waiting w before))
 
 abbrev pub below : ℕ → ℕ
 below zero = zero

@@ -117,9 +117,12 @@ pub data Site (base : Bool) : Type 0 where
 
 abbrev pub spell_site : {base : Bool} → Site base → List Token
 spell_site (In_value top b ls) = spell_labels ls (spell_before b (spell_beginning top))
-spell_site (After_part top b ls part after) = spell_labels after (spell_written part (spell_labels ls (spell_before b (spell_beginning top))))
+spell_site (After_part top b ls part after) =
+    spell_labels after (spell_written part (spell_labels ls (spell_before b (spell_beginning top))))
 spell_site (In_list w l) = spell_listed l
-spell_site (In_hex top b ls begin ps now) = spell_labels now (spell_pairs ps (token sign.LeftSquare begin ∷ spell_labels ls (spell_before b (spell_beginning top))))
+spell_site (In_hex top b ls begin ps now) =
+    spell_labels now
+    (spell_pairs ps (token sign.LeftSquare begin ∷ spell_labels ls (spell_before b (spell_beginning top))))
 
 -- ---- fronts
 
@@ -127,15 +130,18 @@ pub data Front (base : Bool) : Type 0 where
   In_body : (ps : Pieces) → AreFit base ps → (lead : Lead) → fits_lead (place base ps) lead ≡ true → Front base
   At_name : (ps : Pieces) → AreFit base ps → (lead : Lead) → fits_lead (place base ps) lead ≡ true
       → (f : Form) → Name f → may_name (place base ps) (is_empty (marks_of lead)) f ≡ true → Front base
-  At_brace : (ps : Pieces) → AreFit base ps → (lead : Lead) → takes_top (place base ps) ≡ true → is_empty (marks_of lead) ≡ true → Opening → Front base
+  At_brace : (ps : Pieces) → AreFit base ps → (lead : Lead) → takes_top (place base ps) ≡ true
+      → is_empty (marks_of lead) ≡ true → Opening → Front base
   At_directive : (ps : Pieces) → AreFit base ps → (b : Begun) → takes_begun (place base ps) b ≡ true → Front base
   At_end : (ps : Pieces) → AreFit base ps → (s : Short) → takes_short (place base ps) s ≡ true → Front base
   At_site : Site base → Front base
   At_colon : Site base → Name form.Label → Front base
   At_bits : Beginning base → Before → Labels → (directive : Spot) → Front base
-  At_angle : Beginning base → Before → Labels → (directive : Spot) → (n : ℕ) (w : Width) → width_of n ≡ Some w → (number : Spot) → Front base
+  At_angle : Beginning base → Before → Labels → (directive : Spot) → (n : ℕ) (w : Width) → width_of n ≡ Some w
+      → (number : Spot) → Front base
   Before_operand : (w : Width) → Listed base w → (begin : Spot) → (x : Waiting) → AreProper x → Front base
-  After_operand : (w : Width) → Listed base w → (begin : Spot) → (x : Waiting) → AreProper x → (e : Tree) → IsProper e → level e ≤ room x → Front base
+  After_operand : (w : Width) → Listed base w → (begin : Spot) → (x : Waiting) → AreProper x → (e : Tree) → IsProper e
+      → level e ≤ room x → Front base
 
 abbrev pub spell_front : {base : Bool} → Front base → List Token
 spell_front (In_body ps fit lead may) = spell_lead lead (spell_pieces ps)
@@ -145,10 +151,13 @@ spell_front (At_directive ps fit b may) = spell_begun b (spell_pieces ps)
 spell_front (At_end ps fit s may) = spell_short s (spell_pieces ps)
 spell_front (At_site s) = spell_site s
 spell_front (At_colon s n) = name_token form.Label n ∷ spell_site s
-spell_front (At_bits top b ls directive) = token sign.Bits directive ∷ spell_labels ls (spell_before b (spell_beginning top))
-spell_front (At_angle top b ls directive n w is number) = token (sign.Number n) number ∷ token sign.Bits directive ∷ spell_labels ls (spell_before b (spell_beginning top))
+spell_front (At_bits top b ls directive) =
+    token sign.Bits directive ∷ spell_labels ls (spell_before b (spell_beginning top))
+spell_front (At_angle top b ls directive n w is number) =
+    token (sign.Number n) number ∷ token sign.Bits directive ∷ spell_labels ls (spell_before b (spell_beginning top))
 spell_front (Before_operand w l begin x proper) = spell_waiting x (token sign.LeftRound begin ∷ spell_listed l)
-spell_front (After_operand w l begin x proper e is fits) = spell e (spell_waiting x (token sign.LeftRound begin ∷ spell_listed l))
+spell_front (After_operand w l begin x proper e is fits) =
+    spell e (spell_waiting x (token sign.LeftRound begin ∷ spell_listed l))
 
 -- ---- what is open
 

@@ -1,7 +1,8 @@
 -- Statements that nest well.
-use Rattle.std.specs.Prelude.{◌≡◌, ◌<◌, ℕ, zero, suc, Bool, true, false, not, List, [], ◌∷◌, ◌++◌, Option, Some, None, nat_eq, if◌then◌else◌}
+use Rattle.std.specs.Prelude.{◌≡◌, ◌<◌, ℕ, zero, suc, Bool, true, false, ◌&&◌, List, [], ◌∷◌, ◌++◌, Option, Some, None, nat_eq, if◌then◌else◌}
 use Rattle.std.specs.Option.{option_and_then}
-use Rattle.std.specs.List.{list_all, list_any}
+use Rattle.std.specs.List.{list_all}
+use Rattle.edt_base.specs.SourceNames.{is_label, is_node_name, is_prop_name}
 use Rattle.edt_base.specs.declared.node.Kind.{Kind}
 use Rattle.edt_base.specs.declared.node.Kind.TheVariants as kind
 use Rattle.dts_parse.specs.StmtData.{ActData, PartData, StmtData, Plain, Cells, Path, Open, Close, Label, Assign, DelProp, DelNode, Omit}
@@ -46,28 +47,23 @@ is_good_part (Path t) = is_reference t
 
 -- ---- nesting
 
--- a child's name isn't empty and has no `/`
-abbrev pub is_good_name : List ℕ → Bool
-is_good_name [] = false
-is_good_name (b ∷ rest) = not (list_any (nat_eq 47) (b ∷ rest))
-
--- inside an opening a statement names a child, outside one of the others
+-- inside an opening a statement names a child, by a node's name; outside one of the others
 abbrev pub fits_place : ℕ → Target → Bool
 fits_place zero (target.Child name) = false
 fits_place zero _ = true
-fits_place (suc d) (target.Child name) = is_good_name name
+fits_place (suc d) (target.Child name) = is_node_name name
 fits_place (suc d) _ = false
 
--- how many nodes are open behind a statement, where it may stand
+-- how many nodes are open after a statement, where it may stand; labels and properties have names of their forms
 abbrev pub nest : ℕ → ActData → Option ℕ
 nest d (Open t) = if fits_place d t then Some (suc d) else None
 nest d (DelNode t) = if fits_place d t then Some d else None
 nest d (Omit t) = if fits_place d t then Some d else None
 nest zero _ = None
 nest (suc d) Close = Some d
-nest (suc d) (Label name) = Some (suc d)
-nest (suc d) (Assign name parts) = if list_all is_good_part parts then Some (suc d) else None
-nest (suc d) (DelProp name) = Some (suc d)
+nest (suc d) (Label name) = if is_label name then Some (suc d) else None
+nest (suc d) (Assign name parts) = if is_prop_name name && list_all is_good_part parts then Some (suc d) else None
+nest (suc d) (DelProp name) = if is_prop_name name then Some (suc d) else None
 
 abbrev pub nested : ℕ → List StmtData → Option ℕ
 nested d [] = Some d

@@ -37,7 +37,8 @@ number_sign (Some n) = sign.Number n
 
 -- n digits at the front, at least one, and a suffix behind them
 abbrev pub number_of_digits : ℕ → ℕ → List ℕ → Sign
-number_of_digits base n text = if nat_lt 0 n && is_suffix (drop n text) then number_sign (digits_worth base (Some 0) (take n text)) else sign.Other
+number_of_digits base n text =
+    if nat_lt 0 n && is_suffix (drop n text) then number_sign (digits_worth base (Some 0) (take n text)) else sign.Other
 
 -- a word as a number
 abbrev pub number : List ℕ → Sign

@@ -15,7 +15,7 @@ use Rattle.dts_lex.specs.declared.lexer.Span.{Span}
 use Rattle.dts_lex.specs.declared.lexer.SpanKind.{SpanKind}
 use Rattle.dts_lex.specs.declared.lexer.SpanKind.TheVariants as kind
 use Rattle.dts_parse.specs.Fronts.{Front, Listed, expression, in_expression, is_opening, nested, spell_front, spell_listed}
-use Rattle.dts_parse.specs.Machine.{is_include}
+use Rattle.dts_parse.specs.Token.{is_include}
 use Rattle.dts_parse.specs.Numbers.{number}
 use Rattle.dts_parse.specs.Statements.{AreFit, Pieces, place, script, spell_pieces, takes_top}
 use Rattle.dts_parse.specs.StmtData.{StmtData}
@@ -67,7 +67,8 @@ byte_sign b =
 -- an operator of two bytes, by both
 abbrev pub double_sign : ℕ → ℕ → Sign
 double_sign a b =
-    if nat_eq b 61 then (if nat_eq a 60 then sign.Op op.Le else if nat_eq a 62 then sign.Op op.Ge else if nat_eq a 61 then sign.Op op.Eq else sign.Op op.Ne)
+    if nat_eq b 61 then (if nat_eq a 60 then sign.Op op.Le else if nat_eq a 62 then sign.Op op.Ge
+    else if nat_eq a 61 then sign.Op op.Eq else sign.Op op.Ne)
     else if nat_eq a 60 then sign.Op op.Shl
     else if nat_eq a 62 then sign.Op op.Shr
     else if nat_eq a 38 then sign.Op op.And
@@ -103,7 +104,8 @@ token_of src span = token (sign_of span.kind (slice_of src span)) (record { at =
 -- these are the first tokens of the source, the last one first, and this is left behind them
 abbrev pub AreTokens : List ℕ → List Token → Left → Type 0
 AreTokens src [] left = left ≡ whole src
-AreTokens src (t ∷ before) left = (mid : Left) × (span : Span) × AreTokens src before mid × (next_of mid ≡ Ok (Some (span, left))) × (t ≡ token_of src span)
+AreTokens src (t ∷ before) left = (mid : Left) × (span : Span) × AreTokens src before mid
+    × (next_of mid ≡ Ok (Some (span, left))) × (t ≡ token_of src span)
 
 -- ---- the script
 
@@ -123,11 +125,14 @@ pub record IsScript (src : List ℕ) (base : Bool) (stmts : List StmtData) : Typ
 
 -- ---- the rules
 
--- what stands next, there, is taken in by no front; the end of the text counts as a token, which a whole source takes in
+-- what stands next, there, is taken in by no front; the end of the text counts as a token, which a whole source takes
+-- in
 abbrev pub NoneTakes : List ℕ → Bool → List Token → ℕ → Result (Option (Span × Left)) LexFault → Type 0
 NoneTakes src base before at (Err fault) = at ≡ fault.at
-NoneTakes src base before at (Ok None) = (at ≡ length src) × ((ps : Pieces) → AreFit base ps → takes_top (place base ps) ≡ true → spell_pieces ps ≢ before)
-NoneTakes src base before at (Ok (Some next)) = (at ≡ next.0.start) × ((g : Front base) → spell_front g ≢ token_of src next.0 ∷ before)
+NoneTakes src base before at (Ok None) = (at ≡ length src)
+    × ((ps : Pieces) → AreFit base ps → takes_top (place base ps) ≡ true → spell_pieces ps ≢ before)
+NoneTakes src base before at (Ok (Some next)) = (at ≡ next.0.start)
+    × ((g : Front base) → spell_front g ≢ token_of src next.0 ∷ before)
 
 -- the first token that continues no source, or a byte where no token stands
 pub record IsS1 (src : List ℕ) (base : Bool) (at : ℕ) : Type 0 where
@@ -136,9 +141,11 @@ pub record IsS1 (src : List ℕ) (base : Bool) (at : ℕ) : Type 0 where
   pub tokens : AreTokens src (spell_front front) left
   pub none : NoneTakes src base (spell_front front) at (next_of left)
 
--- 64 braces and brackets are open, and one more opens; or 4,096 tokens of an expression are read, and one more is taken in
+-- 64 braces and brackets are open, and one more opens; or 4,096 tokens of an expression are read, and one more is taken
+-- in
 abbrev pub IsTooMuch : (base : Bool) → Front base → Token → Type 0
-IsTooMuch base f t = ((is_opening (in_expression f) t.sign ≡ true) × (64 ≤ nested f)) ⊎ ((4096 ≤ expression f) × ((g : Front base) × (spell_front g ≡ t ∷ spell_front f)))
+IsTooMuch base f t = ((is_opening (in_expression f) t.sign ≡ true) × (64 ≤ nested f)) ⊎ ((4096 ≤ expression f)
+    × ((g : Front base) × (spell_front g ≡ t ∷ spell_front f)))
 
 pub record IsS2 (src : List ℕ) (base : Bool) (at : ℕ) : Type 0 where
   pub front : Front base
@@ -181,7 +188,8 @@ IsBroken src base S6 at = IsS6 src at
 -- the broken rule of the least byte, and at one byte S1 last
 pub record IsFirst (src : List ℕ) (base : Bool) (rule : Breach) (at : ℕ) : Type 0 where
   pub broken : IsBroken src base rule at
-  pub least : (other : Breach) (place : ℕ) → IsBroken src base other place → (at < place) ⊎ ((at ≡ place) × ((other ≡ rule) ⊎ (other ≡ S1)))
+  pub least : (other : Breach) (place : ℕ) → IsBroken src base other place
+      → (at < place) ⊎ ((at ≡ place) × ((other ≡ rule) ⊎ (other ≡ S1)))
 
 -- ---- what a reader answers
 
@@ -196,7 +204,8 @@ abbrev pub IsFirstFault : {T : Type 0} → List ℕ → List ℕ → Bool → Re
 IsFirstFault file src base (Ok v) = Unit {0}
 IsFirstFault file src base (Err (ending.Memory e)) = Unit {0}
 IsFirstFault file src base (Err (ending.Fault f)) =
-    (rule : Breach) × ((at : ℕ) × ((f ≡ record { rule = rule_of rule; place = places.Byte file at }) × IsFirst src base rule at))
+    (rule : Breach)
+    × ((at : ℕ) × ((f ≡ record { rule = rule_of rule; place = places.Byte file at }) × IsFirst src base rule at))
 
 -- it breaks no rule
 abbrev pub BreaksNone : List ℕ → Bool → Type 0
@@ -204,4 +213,5 @@ BreaksNone src base = (rule : Breach) (at : ℕ) → IsBroken src base rule at �
 
 -- a source that breaks no rule has one script
 abbrev pub HasOneScript : Type 0
-HasOneScript = (src : List ℕ) (base : Bool) (a b : List StmtData) → BreaksNone src base → IsScript src base a → IsScript src base b → a ≡ b
+HasOneScript = (src : List ℕ) (base : Bool) (a b : List StmtData) → BreaksNone src base → IsScript src base a
+    → IsScript src base b → a ≡ b

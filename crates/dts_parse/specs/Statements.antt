@@ -47,7 +47,8 @@ omits (at ∷ marks) name = stmt at (Omit (target.Child name)) ∷ omits marks n
 
 -- ---- places between statements
 
--- which statements stood at the top; the open nodes, innermost first, each with what follows its end; and how many they are
+-- which statements stood at the top; the open nodes, innermost first, each with what follows its end; and how many they
+-- are
 pub record Place : Type 0 where
   pub stage : Stage
   pub opened : List (List StmtData)
@@ -125,7 +126,8 @@ pub data Short : Type 0 where
 abbrev pub spell_short : Short → List Token → List Token
 spell_short (Version_ d) before = token sign.Version d ∷ before
 spell_short (Plugin_ d) before = token sign.Plugin d ∷ before
-spell_short (Reserve_ d m p n q) before = token (numeral_sign n) q ∷ token (numeral_sign m) p ∷ token sign.Reserve d ∷ before
+spell_short (Reserve_ d m p n q) before =
+    token (numeral_sign n) q ∷ token (numeral_sign m) p ∷ token sign.Reserve d ∷ before
 spell_short (Delete_ref d p) before = token sign.Ref p ∷ token sign.DeleteNode d ∷ before
 spell_short (Omit_ref d p) before = token sign.Ref p ∷ token sign.Omit d ∷ before
 spell_short (Delete_child d f n is) before = name_token f n ∷ token sign.DeleteNode d ∷ before
@@ -168,17 +170,24 @@ pub data Pieces : Type 0 where
   Open_ref : Pieces → Lead → (ref brace : Spot) → Pieces
   Open_child : Pieces → Lead → (f : Form) → Name f → (brace : Spot) → Pieces
   Flag_ : Pieces → Lead → (f : Form) → Name f → (semicolon : Spot) → Pieces
-  Assign_ : Pieces → Lead → (f : Form) → Name f → (equal : Spot) → Before → Labels → Written → Labels → (semicolon : Spot) → Pieces
+  Assign_ : Pieces → Lead → (f : Form) → Name f → (equal : Spot) → Before → Labels → Written → Labels
+      → (semicolon : Spot) → Pieces
 
 abbrev pub spell_pieces : Pieces → List Token
 spell_pieces Nothing_yet = []
 spell_pieces (Short_ ps s semicolon) = token sign.Semicolon semicolon ∷ spell_short s (spell_pieces ps)
-spell_pieces (Open_root ps lead slash brace) = token sign.LeftBrace brace ∷ token sign.Slash slash ∷ spell_lead lead (spell_pieces ps)
-spell_pieces (Open_ref ps lead ref brace) = token sign.LeftBrace brace ∷ token sign.Ref ref ∷ spell_lead lead (spell_pieces ps)
-spell_pieces (Open_child ps lead f n brace) = token sign.LeftBrace brace ∷ name_token f n ∷ spell_lead lead (spell_pieces ps)
-spell_pieces (Flag_ ps lead f n semicolon) = token sign.Semicolon semicolon ∷ name_token f n ∷ spell_lead lead (spell_pieces ps)
+spell_pieces (Open_root ps lead slash brace) =
+    token sign.LeftBrace brace ∷ token sign.Slash slash ∷ spell_lead lead (spell_pieces ps)
+spell_pieces (Open_ref ps lead ref brace) =
+    token sign.LeftBrace brace ∷ token sign.Ref ref ∷ spell_lead lead (spell_pieces ps)
+spell_pieces (Open_child ps lead f n brace) =
+    token sign.LeftBrace brace ∷ name_token f n ∷ spell_lead lead (spell_pieces ps)
+spell_pieces (Flag_ ps lead f n semicolon) =
+    token sign.Semicolon semicolon ∷ name_token f n ∷ spell_lead lead (spell_pieces ps)
 spell_pieces (Assign_ ps lead f n equal b ls part after semicolon) =
-    token sign.Semicolon semicolon ∷ spell_labels after (spell_written part (spell_labels ls (spell_before b (token sign.Equal equal ∷ name_token f n ∷ spell_lead lead (spell_pieces ps)))))
+    token sign.Semicolon semicolon ∷ spell_labels after
+    (spell_written part (spell_labels ls
+    (spell_before b (token sign.Equal equal ∷ name_token f n ∷ spell_lead lead (spell_pieces ps)))))
 
 -- where they lead, from the beginning of a base or an overlay
 abbrev pub place : Bool → Pieces → Place
@@ -194,10 +203,14 @@ place base (Assign_ ps lead f n equal b ls part after semicolon) = beyond (place
 abbrev pub AreFit : Bool → Pieces → Type 0
 AreFit base Nothing_yet = Unit {0}
 AreFit base (Short_ ps s semicolon) = AreFit base ps × (takes_short (place base ps) s ≡ true)
-AreFit base (Open_root ps lead slash brace) = AreFit base ps × (takes_top (place base ps) ≡ true) × (is_empty (marks_of lead) ≡ true)
-AreFit base (Open_ref ps lead ref brace) = AreFit base ps × (takes_top (place base ps) ≡ true) × (is_empty (marks_of lead) ≡ true)
-AreFit base (Open_child ps lead f n brace) = AreFit base ps × (takes_inner (place base ps) ≡ true) × (is_node_form f ≡ true)
-AreFit base (Flag_ ps lead f n semicolon) = AreFit base ps × (takes_inner (place base ps) ≡ true) × (is_empty (marks_of lead) ≡ true) × (is_prop_form f ≡ true)
+AreFit base (Open_root ps lead slash brace) = AreFit base ps × (takes_top (place base ps) ≡ true)
+    × (is_empty (marks_of lead) ≡ true)
+AreFit base (Open_ref ps lead ref brace) = AreFit base ps × (takes_top (place base ps) ≡ true)
+    × (is_empty (marks_of lead) ≡ true)
+AreFit base (Open_child ps lead f n brace) = AreFit base ps × (takes_inner (place base ps) ≡ true)
+    × (is_node_form f ≡ true)
+AreFit base (Flag_ ps lead f n semicolon) = AreFit base ps × (takes_inner (place base ps) ≡ true)
+    × (is_empty (marks_of lead) ≡ true) × (is_prop_form f ≡ true)
 AreFit base (Assign_ ps lead f n equal b ls part after semicolon) =
     AreFit base ps × (takes_inner (place base ps) ≡ true) × (is_empty (marks_of lead) ≡ true) × (is_prop_form f ≡ true)
 
@@ -205,11 +218,15 @@ AreFit base (Assign_ ps lead f n equal b ls part after semicolon) =
 abbrev pub script : Bool → Pieces → List StmtData
 script base Nothing_yet = []
 script base (Short_ ps s semicolon) = with_short (place base ps) s (script base ps)
-script base (Open_root ps lead slash brace) = (script base ps ++ stmt slash.at (Open target.Root) ∷ []) ++ labels_of lead
-script base (Open_ref ps lead ref brace) = (script base ps ++ stmt ref.at (Open (target_of ref.text)) ∷ []) ++ labels_of lead
-script base (Open_child ps lead f n brace) = (script base ps ++ stmt n.spot.at (Open (target.Child n.spot.text)) ∷ []) ++ labels_of lead
+script base (Open_root ps lead slash brace) = (script base ps ++ stmt slash.at (Open target.Root) ∷ [])
+    ++ labels_of lead
+script base (Open_ref ps lead ref brace) = (script base ps ++ stmt ref.at (Open (target_of ref.text)) ∷ [])
+    ++ labels_of lead
+script base (Open_child ps lead f n brace) = (script base ps ++ stmt n.spot.at (Open (target.Child n.spot.text)) ∷ [])
+    ++ labels_of lead
 script base (Flag_ ps lead f n semicolon) = script base ps ++ stmt n.spot.at (Assign n.spot.text []) ∷ []
-script base (Assign_ ps lead f n equal b ls part after semicolon) = script base ps ++ stmt n.spot.at (Assign n.spot.text (parts_of b ++ part_of part ∷ [])) ∷ []
+script base (Assign_ ps lead f n equal b ls part after semicolon) = script base ps
+    ++ stmt n.spot.at (Assign n.spot.text (parts_of b ++ part_of part ∷ [])) ∷ []
 
 -- a source ends where no node is open, and a base has begun
 abbrev pub ends : Place → Bool

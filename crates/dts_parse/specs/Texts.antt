@@ -27,7 +27,8 @@ pair_worth _ = 0
 -- up to three octal digits, up to 377
 abbrev pub octal_two : ℕ → ℕ → List ℕ → ℕ
 octal_two a b [] = two_digits 8 (a - 48) (b - 48)
-octal_two a b (c ∷ rest) = if nat_le a 51 && is_octal c then two_digits 8 (two_digits 8 (a - 48) (b - 48)) (c - 48) else two_digits 8 (a - 48) (b - 48)
+octal_two a b (c ∷ rest) = if nat_le a 51 && is_octal c then two_digits 8 (two_digits 8 (a - 48) (b - 48)) (c - 48)
+    else two_digits 8 (a - 48) (b - 48)
 
 abbrev pub octal : ℕ → List ℕ → ℕ
 octal a [] = a - 48
@@ -100,4 +101,5 @@ element_bytes Bits64 n = to_be_bytes w64 n
 
 -- the number behind `/bits/`
 abbrev pub width_of : ℕ → Option Width
-width_of n = if nat_eq n 8 then Some Bits8 else if nat_eq n 16 then Some Bits16 else if nat_eq n 32 then Some Bits32 else if nat_eq n 64 then Some Bits64 else None
+width_of n = if nat_eq n 8 then Some Bits8 else if nat_eq n 16 then Some Bits16 else if nat_eq n 32 then Some Bits32
+    else if nat_eq n 64 then Some Bits64 else None

@@ -113,3 +113,8 @@ op_level op.BitXor = 8
 op_level op.BitOr = 9
 op_level op.And = 10
 op_level op.Or = 11
+
+-- a directive that asks for another file
+abbrev pub is_include : Sign → Bool
+is_include sign.Include = true
+is_include _ = false

@@ -33,7 +33,8 @@ pub data Element (w : Width) : Type 0 where
 
 abbrev pub spell_element : {w : Width} → Element w → List Token → List Token
 spell_element (Lone l p) before = token (literal_sign l) p ∷ before
-spell_element (Group begin e proper finish) before = token sign.RightRound finish ∷ spell e (token sign.LeftRound begin ∷ before)
+spell_element (Group begin e proper finish) before =
+    token sign.RightRound finish ∷ spell e (token sign.LeftRound begin ∷ before)
 spell_element (Refer is p) before = token sign.Ref p ∷ before
 
 -- the elements of a list, with the labels before each
@@ -120,19 +121,24 @@ pub data Head (w : Width) : Type 0 where
 
 abbrev pub spell_head : {w : Width} → Head w → List Token → List Token
 spell_head (Angle_ is begin) before = token sign.Less begin ∷ before
-spell_head (Bits_ directive n is number begin) before = token sign.Less begin ∷ token (sign.Number n) number ∷ token sign.Bits directive ∷ before
+spell_head (Bits_ directive n is number begin) before =
+    token sign.Less begin ∷ token (sign.Number n) number ∷ token sign.Bits directive ∷ before
 
 pub data Written : Type 0 where
   Text_ : Spot → Written
   Path_ : Spot → Written
-  List_ : (w : Width) → Head w → (es : Elements w) → (ls : Labels) → may_close (listing_of es ls) ≡ true → (finish : Spot) → Written
-  Hex_ : (begin : Spot) → (ps : Pairs) → (ls : Labels) → may_close (pair_listing ps ls) ≡ true → (finish : Spot) → Written
+  List_ : (w : Width) → Head w → (es : Elements w) → (ls : Labels) → may_close (listing_of es ls) ≡ true
+      → (finish : Spot) → Written
+  Hex_ : (begin : Spot) → (ps : Pairs) → (ls : Labels) → may_close (pair_listing ps ls) ≡ true → (finish : Spot)
+      → Written
 
 abbrev pub spell_written : Written → List Token → List Token
 spell_written (Text_ p) before = token sign.Str p ∷ before
 spell_written (Path_ p) before = token sign.Ref p ∷ before
-spell_written (List_ w h es ls ends finish) before = token sign.Greater finish ∷ spell_labels ls (spell_elements es (spell_head h before))
-spell_written (Hex_ begin ps ls ends finish) before = token sign.RightSquare finish ∷ spell_labels ls (spell_pairs ps (token sign.LeftSquare begin ∷ before))
+spell_written (List_ w h es ls ends finish) before =
+    token sign.Greater finish ∷ spell_labels ls (spell_elements es (spell_head h before))
+spell_written (Hex_ begin ps ls ends finish) before =
+    token sign.RightSquare finish ∷ spell_labels ls (spell_pairs ps (token sign.LeftSquare begin ∷ before))
 
 -- a list of 8 bits is bytes, one of 32 cells, the others are wide
 abbrev pub list_data : Width → List RawCell → List ℕ → PartData
@@ -153,7 +159,8 @@ pub data Before : Type 0 where
 
 abbrev pub spell_before : Before → List Token → List Token
 spell_before Nothing before = before
-spell_before (Comma_ b ls part after comma) before = token sign.Comma comma ∷ spell_labels after (spell_written part (spell_labels ls (spell_before b before)))
+spell_before (Comma_ b ls part after comma) before =
+    token sign.Comma comma ∷ spell_labels after (spell_written part (spell_labels ls (spell_before b before)))
 
 abbrev pub parts_of : Before → List PartData
 parts_of Nothing = []

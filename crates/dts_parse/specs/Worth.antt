@@ -1,4 +1,5 @@
--- What an expression is worth, by C's rules, over numbers of 64 bits without a sign; none where an evaluated divisor is 0.
+-- What an expression is worth, by C's rules, over numbers of 64 bits without a sign; none where an evaluated divisor is
+-- 0.
 use Rattle.std.specs.Prelude.{ℕ, ◌+◌, ◌-◌, ◌*◌, ◌/◌, ◌%◌, ◌^◌, Bool, Option, Some, None, nat_eq, nat_lt, nat_le, not, ◌&&◌, ◌||◌, bit_and, bit_or, bit_xor, option_map, if◌then◌else◌}
 use Rattle.std.specs.Option.{option_and_then}
 use Rattle.dts_parse.specs.declared.expr.Expr.{Expr, fold-Expr}

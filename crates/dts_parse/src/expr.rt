@@ -76,9 +76,9 @@ pub enum Expr {
 #[error("a divisor is 0")]
 pub struct ExprFault;
 
-/// What an expression is worth by C's rules, in 64 bits without a sign: arithmetic wraps, a shift by
-/// 64 or more gives 0, truth is 1 or 0, and of `&&`, `||` and `?:` only what C evaluates counts. The
-/// error comes exactly where an evaluated divisor is 0. Takes no memory.
+/// What an expression is worth by C's rules, in 64 bits without a sign: arithmetic wraps, a shift
+/// by 64 or more gives 0, truth is 1 or 0, and of `&&`, `||` and `?:` only what C evaluates counts.
+/// The error comes exactly where an evaluated divisor is 0. Takes no memory.
 pub fn eval(e: &Expr) -> Result<u64, ExprFault>
     ensures value { IfOk result (λ n. worth e.now ≡ Some n) }
     ensures none { OnErr result (worth e.now ≡ None) }

@@ -3,9 +3,9 @@
 ghost use Rattle.std.specs.Prelude.{◌≡◌, ◌<◌, ◌∷◌, [], Ok, Some, None, true, false, suc, reverse};
 ghost use Rattle.dts_parse.specs.Exprs.{more};
 ghost use Rattle.dts_parse.specs.Fronts.{is_opening};
-ghost use Rattle.dts_parse.specs.Machine.{Climbed, before_operand, behind_operand, chosen, chosen_case, climbed, closed_case, closed_round, joined, operand_is, put, refused, tested, waits};
+ghost use Rattle.dts_parse.specs.Inner.Machine.{Climbed, before_operand, behind_operand, chosen, chosen_case, climbed, closed_case, closed_round, joined, operand_is, put, refused, tested, waits};
 ghost use Rattle.dts_parse.specs.Statements.{below};
-ghost use Rattle.dts_parse.specs.Shown.{Leaves, shown};
+ghost use Rattle.dts_parse.specs.Inner.Shown.{Leaves, shown};
 ghost use Rattle.dts_parse.specs.Token.{bin_of, op_level, un_of};
 ghost use Rattle.dts_parse.specs.declared.mode.Frame.TheVariants as frame;
 ghost use Rattle.dts_parse.specs.declared.mode.Mode.TheVariants as mode;
@@ -32,7 +32,8 @@ impl<'a> Parser<'a> {
     /// Where an operand begins.
     pub(crate) fn before_operand(&mut self, width: Width, token: &Token<'a>) -> Result<(), Stop>
         requires { is_opening true token.now.sign ≡ true → (shown self.old).depth < 64 }
-        ensures { Leaves (shown self.new) result (before_operand width (shown self.old) token.now.spot token.now.sign) }
+        ensures { Leaves (shown self.new) result
+            (before_operand width (shown self.old) token.now.spot token.now.sign) }
     {
         match token.sign {
             Sign::Number(n) => self.operand_is(width, self.huge, Some(n)),
@@ -57,7 +58,13 @@ impl<'a> Parser<'a> {
 
     fn at_round(&mut self) -> Result<(), Stop>
         requires { (shown self.old).depth < 64 }
-        ensures { Leaves (shown self.new) result (Ok (record (shown self.old) { depth = suc (shown self.old).depth; long = more (shown self.old).long; frames = frame.Round ∷ (shown self.old).frames })) }
+        ensures { Leaves (shown self.new) result
+            (Ok (record (shown self.old) {
+              depth = suc (shown self.old).depth;
+              long = more (shown self.old).long;
+              frames =
+                  frame.Round ∷ (shown self.old).frames;
+            })) }
     {
         self.depth += 1;
         self.long = more(self.long);
@@ -67,7 +74,8 @@ impl<'a> Parser<'a> {
 
     /// A case that waits for its last operand.
     fn waits(&mut self, width: Width, case: Frame) -> Result<(), Stop>
-        ensures { Leaves (shown self.new) result (waits width (shown self.old) case (shown self.old).frames) }
+        ensures { Leaves (shown self.new) result
+            (waits width (shown self.old) case (shown self.old).frames) }
     {
         self.mode = Mode::Operand(width);
         self.long = more(self.long);
@@ -82,7 +90,8 @@ impl<'a> Parser<'a> {
         worth: Option<u64>,
         token: &Token<'a>,
     ) -> Result<(), Stop>
-        ensures { Leaves (shown self.new) result (behind_operand width worth (shown self.old) token.now.spot token.now.sign) }
+        ensures { Leaves (shown self.new) result
+            (behind_operand width worth (shown self.old) token.now.spot token.now.sign) }
     {
         match token.sign {
             Sign::RightRound => self.closed_round(width, worth, token),
@@ -97,7 +106,9 @@ impl<'a> Parser<'a> {
 
     /// At an operator between two operands.
     fn joined(&mut self, width: Width, worth: Option<u64>, op: BinOp) -> Result<(), Stop>
-        ensures { Leaves (shown self.new) result (joined width (shown self.old) op (climbed (op_level op) (shown self.old).frames worth)) }
+        ensures { Leaves (shown self.new) result
+            (joined width (shown self.old) op
+            (climbed (op_level op) (shown self.old).frames worth)) }
     {
         let left = climb(&mut self.frames, op_level(op), worth);
         self.waits(width, Frame::Bin(op, left))
@@ -105,7 +116,8 @@ impl<'a> Parser<'a> {
 
     /// At `?`.
     fn tested(&mut self, width: Width, worth: Option<u64>) -> Result<(), Stop>
-        ensures { Leaves (shown self.new) result (tested width (shown self.old) (climbed 11 (shown self.old).frames worth)) }
+        ensures { Leaves (shown self.new) result
+            (tested width (shown self.old) (climbed 11 (shown self.old).frames worth)) }
     {
         let test = climb(&mut self.frames, TEST_LEVEL, worth);
         self.waits(width, Frame::Cond(test))
@@ -113,7 +125,9 @@ impl<'a> Parser<'a> {
 
     /// At `:`.
     fn chosen(&mut self, width: Width, worth: Option<u64>, token: &Token<'a>) -> Result<(), Stop>
-        ensures { Leaves (shown self.new) result (chosen width (shown self.old) token.now.spot (climbed 12 (shown self.old).frames worth)) }
+        ensures { Leaves (shown self.new) result
+            (chosen width (shown self.old) token.now.spot
+            (climbed 12 (shown self.old).frames worth)) }
     {
         let yes_case = climb(&mut self.frames, COND_LEVEL, worth);
         match self.frames.pop() {
@@ -129,7 +143,9 @@ impl<'a> Parser<'a> {
         worth: Option<u64>,
         token: &Token<'a>,
     ) -> Result<(), Stop>
-        ensures { Leaves (shown self.new) result (closed_round width (shown self.old) token.now.spot (climbed 12 (shown self.old).frames worth)) }
+        ensures { Leaves (shown self.new) result
+            (closed_round width (shown self.old) token.now.spot
+            (climbed 12 (shown self.old).frames worth)) }
     {
         let worth = climb(&mut self.frames, COND_LEVEL, worth);
         match self.frames.pop() {
@@ -147,7 +163,15 @@ impl<'a> Parser<'a> {
     /// At the `)` that ends an element.
     fn closed_group(&mut self, width: Width, worth: Option<u64>) -> Result<(), Stop>
         requires { (shown self.old).frames ≡ [] }
-        ensures { Leaves (shown self.new) result (put width (shown self.old).huge worth (shown self.old).begin (record (shown self.old) { depth = below (shown self.old).depth; begin = 0; long = 0; huge = false; frames = [] })) }
+        ensures { Leaves (shown self.new) result
+            (put width (shown self.old).huge worth (shown self.old).begin
+            (record (shown self.old) {
+              depth = below (shown self.old).depth;
+              begin = 0;
+              long = 0;
+              huge = false;
+              frames = [];
+            })) }
     {
         let huge = self.huge;
         let begin = self.begin;

@@ -1,7 +1,7 @@
 //! Open cases of an expression on a stack, so that no depth of it costs the machine's.
 
 ghost use Rattle.std.specs.Prelude.{◌≡◌, Some, None, option_map, reverse};
-ghost use Rattle.dts_parse.specs.Machine.{Climbed, climbed, reduced};
+ghost use Rattle.dts_parse.specs.Inner.Machine.{Climbed, climbed, reduced};
 ghost use Rattle.dts_parse.specs.Token.{bin_of, op_level, un_of};
 ghost use Rattle.dts_parse.specs.Worth.{bin, cond, un, with_left};
 
@@ -108,7 +108,8 @@ fn reduced(level: u32, frame: Frame, worth: Option<u64>) -> Option<Option<u64>>
 
 /// Closes the cases that an operator of this level closes, and gives what they are worth.
 pub(crate) fn climb(frames: &mut Vec<Frame>, level: u32, worth: Option<u64>) -> Option<u64>
-    ensures { climbed level (reverse frames.old.items) worth ≡ record { left = reverse frames.new.items; worth = result } }
+    ensures { climbed level (reverse frames.old.items) worth
+        ≡ record { left = reverse frames.new.items; worth = result } }
 {
     let mut worth = worth;
     while let Some(frame) = frames.last().copied() {

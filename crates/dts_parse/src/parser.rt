@@ -2,8 +2,9 @@
 
 ghost use Rattle.std.specs.Prelude.{◌≡◌, ◌≤◌, ◌<◌, ◌&&◌, Ok, Err, true, if◌then◌else◌};
 ghost use Rattle.dts_parse.specs.Fronts.{is_opening};
-ghost use Rattle.dts_parse.specs.Machine.{in_rounds, is_body, is_include, is_whole, limited, start, step, taken};
-ghost use Rattle.dts_parse.specs.Shown.{Leaves, shown};
+ghost use Rattle.dts_parse.specs.Inner.Machine.{in_rounds, is_body, is_whole, limited, start, step, taken};
+ghost use Rattle.dts_parse.specs.Token.{is_include};
+ghost use Rattle.dts_parse.specs.Inner.Shown.{Leaves, shown};
 
 use crate::expressions::MOST_TOKENS;
 use crate::mode::{Breach, Frame, Mode, Stage};
@@ -174,8 +175,10 @@ impl<'a> Parser<'a> {
 
     /// Behind as many tokens as an expression may have: one that continues it is too many.
     fn take_limited(&mut self, alloc: Global, token: &Token<'a>) -> Result<(), Stop>
-        requires { is_opening (in_rounds (shown self.old).mode) token.now.sign ≡ true → (shown self.old).depth < 64 }
-        ensures { Leaves (shown self.new) result (limited token.now.spot (taken (shown self.old) token.now.spot token.now.sign)) }
+        requires { is_opening (in_rounds (shown self.old).mode) token.now.sign ≡ true
+            → (shown self.old).depth < 64 }
+        ensures { Leaves (shown self.new) result
+            (limited token.now.spot (taken (shown self.old) token.now.spot token.now.sign)) }
     {
         let at = token.at;
         match self.take_token(alloc, token) {
@@ -187,8 +190,10 @@ impl<'a> Parser<'a> {
     }
 
     fn take_token(&mut self, alloc: Global, token: &Token<'a>) -> Result<(), Stop>
-        requires { is_opening (in_rounds (shown self.old).mode) token.now.sign ≡ true → (shown self.old).depth < 64 }
-        ensures { Leaves (shown self.new) result (taken (shown self.old) token.now.spot token.now.sign) }
+        requires { is_opening (in_rounds (shown self.old).mode) token.now.sign ≡ true
+            → (shown self.old).depth < 64 }
+        ensures { Leaves (shown self.new) result
+            (taken (shown self.old) token.now.spot token.now.sign) }
     {
         if self.colon {
             return self.at_colon(token);

@@ -95,8 +95,8 @@ impl Model for Script {
 impl Script {
     ghost use Rattle.dts_parse.specs.Nested.{IsNested};
 
-    /// Each end is of an opening and each opening is ended, statements stand where they may, and the
-    /// bytes of references rise.
+    /// Each end is of an opening and each opening is ended, statements stand where they may, and
+    /// the bytes of references rise.
     pub fn is_nested(&self)
         ensures { IsNested self.now }
     {

@@ -2,7 +2,7 @@
 
 ghost use Rattle.std.specs.Prelude.{◌≡◌, ◌≤◌, ◌+◌, IfOk, IfErr, List, length};
 ghost use Rattle.dts_lex.specs.Left.{Left};
-ghost use Rattle.dts_parse.specs.Outcome.{IsAnswer, IsStop};
+ghost use Rattle.dts_parse.specs.Inner.Outcome.{IsAnswer, IsStop};
 ghost use Rattle.dts_parse.specs.Source.{BreaksNone, IsFirstFault, IsScript, rule_of};
 ghost use Rattle.dts_parse.specs.StmtData.{StmtData};
 
@@ -16,14 +16,15 @@ use edt_base::{End, Fault, Place, Rule, Text};
 use std::alloc::Global;
 
 /// Reads the source of a base or of an overlay (Devicetree Specification v0.4, chapter 6; Zephyr
-/// 3.7's devicetrees): its statements, or the first of these faults, by byte and at one byte S1 last.
-/// S1 stands at the first token that continues no source, or at the end, or at a byte where no token
-/// stands. S2 stands at a brace or bracket that nests above 64, and at the 4,097th token of an
-/// element's expression. S5 stands at an element without a value, or with one that doesn't fit. S6
-/// stands at `/include/` and `/incbin/`. `file` names the source in the fault.
+/// 3.7's devicetrees): its statements, or the first of these faults, by byte and at one byte S1
+/// last. S1 stands at the first token that continues no source, or at the end, or at a byte where
+/// no token stands. S2 stands at a brace or bracket that nests above 64, and at the 4,097th token
+/// of an element's expression. S5 stands at an element without a value, or with one that doesn't
+/// fit. S6 stands at `/include/` and `/incbin/`. `file` names the source in the fault.
 pub fn parse(alloc: Global, file: &Text, src: &[u8], base: bool) -> Result<Script, End>
     ensures found { IfOk result (λ s. IsScript src.now base s) }
-    ensures only { IfOk result (λ s. (other : List StmtData) → IsScript src.now base other → s ≡ other) }
+    ensures only { IfOk result
+        (λ s. (other : List StmtData) → IsScript src.now base other → s ≡ other) }
     ensures sound { IfOk result (λ s. BreaksNone src.now base) }
     ensures first { IsFirstFault file.now src.now base result }
 {

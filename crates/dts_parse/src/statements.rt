@@ -3,8 +3,8 @@
 ghost use Rattle.std.specs.Prelude.{◌≡◌, ◌<◌, ◌++◌, ◌∷◌, [], Ok, Some, None, OnOk, IfOk, IsTrue, true, false};
 ghost use Rattle.std.specs.List.{list_all};
 ghost use Rattle.dts_parse.specs.Fronts.{is_opening, may_name};
-ghost use Rattle.dts_parse.specs.Machine.{at_brace, at_child, at_close, at_deletion, at_end, at_flag, at_label, at_mark, at_opening, behind_name, complete, directive, in_body, is_bare, is_prop, named, place_now, refused};
-ghost use Rattle.dts_parse.specs.Shown.{Leaves, shown};
+ghost use Rattle.dts_parse.specs.Inner.Machine.{at_brace, at_child, at_close, at_deletion, at_end, at_flag, at_label, at_mark, at_opening, behind_name, complete, directive, in_body, is_bare, is_prop, named, place_now, refused};
+ghost use Rattle.dts_parse.specs.Inner.Shown.{Leaves, shown};
 ghost use Rattle.dts_parse.specs.Statements.{has_begun, is_early, is_empty, omits, takes_inner, takes_top, takes_version};
 ghost use Rattle.dts_parse.specs.StmtData.{Open, Close, Label, Assign, DelProp, DelNode, Omit, stmt};
 ghost use Rattle.dts_parse.specs.Texts.{target_of};
@@ -99,7 +99,8 @@ impl<'a> Parser<'a> {
     }
 
     fn may_name(&self, form: Form) -> bool
-        ensures { result ≡ may_name (place_now (shown self.now)) (is_empty (shown self.now).marks) form }
+        ensures { result
+            ≡ may_name (place_now (shown self.now)) (is_empty (shown self.now).marks) form }
     {
         (self.takes_inner() && (self.is_unmarked() || is_node_form(form)))
             || (self.takes_top() && is_label_form(form))
@@ -107,7 +108,8 @@ impl<'a> Parser<'a> {
 
     /// Where a statement may begin, or behind labels and marks.
     pub(crate) fn in_body(&mut self, alloc: Global, token: &Token<'a>) -> Result<(), Stop>
-        ensures { Leaves (shown self.new) result (in_body (shown self.old) token.now.spot token.now.sign) }
+        ensures { Leaves (shown self.new) result
+            (in_body (shown self.old) token.now.spot token.now.sign) }
     {
         match token.sign {
             Sign::Name(form) => self.at_name(token, form),
@@ -126,7 +128,8 @@ impl<'a> Parser<'a> {
 
     fn at_name(&mut self, token: &Token<'a>, form: Form) -> Result<(), Stop>
         requires { token.now.sign ≡ sign.Name form }
-        ensures { Leaves (shown self.new) result (in_body (shown self.old) token.now.spot (sign.Name form)) }
+        ensures { Leaves (shown self.new) result
+            (in_body (shown self.old) token.now.spot (sign.Name form)) }
     {
         if !self.may_name(form) {
             return Err(Stop::Broken(Breach::S1, token.at));
@@ -140,7 +143,9 @@ impl<'a> Parser<'a> {
     }
 
     fn at_root(&mut self, token: &Token<'a>) -> Result<(), Stop>
-        ensures { Leaves (shown self.new) result (at_opening (shown self.old) token.now.spot (stmt token.now.spot.at (Open target.Root))) }
+        ensures { Leaves (shown self.new) result
+            (at_opening (shown self.old) token.now.spot
+            (stmt token.now.spot.at (Open target.Root))) }
     {
         if !(self.takes_top() && self.is_unmarked()) {
             return Err(Stop::Broken(Breach::S1, token.at));
@@ -153,7 +158,9 @@ impl<'a> Parser<'a> {
 
     fn at_ref_opening(&mut self, alloc: Global, token: &Token<'a>) -> Result<(), Stop>
         requires { token.now.sign ≡ sign.Ref }
-        ensures { Leaves (shown self.new) result (at_opening (shown self.old) token.now.spot (stmt token.now.spot.at (Open (target_of token.now.spot.text)))) }
+        ensures { Leaves (shown self.new) result
+            (at_opening (shown self.old) token.now.spot
+            (stmt token.now.spot.at (Open (target_of token.now.spot.text)))) }
     {
         if !(self.takes_top() && self.is_unmarked()) {
             return Err(Stop::Broken(Breach::S1, token.at));
@@ -167,7 +174,14 @@ impl<'a> Parser<'a> {
 
     /// A root or a node by reference: its opening, and its labels behind it.
     fn enter(&mut self, opening: Stmt) -> Result<(), Stop>
-        ensures { Leaves (shown self.new) result (Ok (record (shown self.old) { mode = mode.Opening; labels = []; marks = []; out = ((shown self.old).out ++ opening ∷ []) ++ (shown self.old).labels })) }
+        ensures { Leaves (shown self.new) result
+            (Ok (record (shown self.old) {
+              mode = mode.Opening;
+              labels = [];
+              marks = [];
+              out =
+                  ((shown self.old).out ++ opening ∷ []) ++ (shown self.old).labels;
+            })) }
     {
         self.mode = Mode::Opening;
         self.marks.clear();
@@ -211,7 +225,8 @@ impl<'a> Parser<'a> {
     }
 
     fn at_version(&mut self, token: &Token<'a>) -> Result<(), Stop>
-        ensures { Leaves (shown self.new) result (in_body (shown self.old) token.now.spot sign.Version) }
+        ensures { Leaves (shown self.new) result
+            (in_body (shown self.old) token.now.spot sign.Version) }
     {
         if !(self.is_bare() && self.takes_version()) {
             return Err(Stop::Broken(Breach::S1, token.at));
@@ -222,7 +237,8 @@ impl<'a> Parser<'a> {
     }
 
     fn at_plugin(&mut self, token: &Token<'a>) -> Result<(), Stop>
-        ensures { Leaves (shown self.new) result (in_body (shown self.old) token.now.spot sign.Plugin) }
+        ensures { Leaves (shown self.new) result
+            (in_body (shown self.old) token.now.spot sign.Plugin) }
     {
         if !(self.is_bare() && self.takes_top()) {
             return Err(Stop::Broken(Breach::S1, token.at));
@@ -233,7 +249,8 @@ impl<'a> Parser<'a> {
     }
 
     fn at_reserve(&mut self, token: &Token<'a>) -> Result<(), Stop>
-        ensures { Leaves (shown self.new) result (in_body (shown self.old) token.now.spot sign.Reserve) }
+        ensures { Leaves (shown self.new) result
+            (in_body (shown self.old) token.now.spot sign.Reserve) }
     {
         if !(self.is_bare() && self.takes_top()) {
             return Err(Stop::Broken(Breach::S1, token.at));
@@ -259,7 +276,8 @@ impl<'a> Parser<'a> {
     }
 
     fn at_prop_deletion(&mut self, token: &Token<'a>) -> Result<(), Stop>
-        ensures { Leaves (shown self.new) result (in_body (shown self.old) token.now.spot sign.DeleteProp) }
+        ensures { Leaves (shown self.new) result
+            (in_body (shown self.old) token.now.spot sign.DeleteProp) }
     {
         if !(self.is_bare() && self.takes_inner()) {
             return Err(Stop::Broken(Breach::S1, token.at));
@@ -272,7 +290,8 @@ impl<'a> Parser<'a> {
     /// Behind `/` or a reference.
     pub(crate) fn at_brace(&mut self, alloc: Global, token: &Token<'a>) -> Result<(), Stop>
         requires { is_opening false token.now.sign ≡ true → (shown self.old).depth < 64 }
-        ensures { Leaves (shown self.new) result (at_brace (shown self.old) token.now.spot token.now.sign) }
+        ensures { Leaves (shown self.new) result
+            (at_brace (shown self.old) token.now.spot token.now.sign) }
     {
         match token.sign {
             Sign::LeftBrace => {
@@ -290,7 +309,8 @@ impl<'a> Parser<'a> {
 
     /// At the end of a statement.
     pub(crate) fn at_end(&mut self, token: &Token<'a>) -> Result<(), Stop>
-        ensures { Leaves (shown self.new) result (at_end (shown self.old) token.now.spot token.now.sign) }
+        ensures { Leaves (shown self.new) result
+            (at_end (shown self.old) token.now.spot token.now.sign) }
     {
         match token.sign {
             Sign::Semicolon => {
@@ -319,7 +339,8 @@ impl<'a> Parser<'a> {
     /// Behind the name of a statement.
     pub(crate) fn named(&mut self, alloc: Global, form: Form, token: &Token<'a>) -> Result<(), Stop>
         requires { is_opening false token.now.sign ≡ true → (shown self.old).depth < 64 }
-        ensures { Leaves (shown self.new) result (named form (shown self.old) token.now.spot token.now.sign) }
+        ensures { Leaves (shown self.new) result
+            (named form (shown self.old) token.now.spot token.now.sign) }
     {
         match token.sign {
             Sign::Colon => self.at_label(alloc, form, token),
@@ -331,7 +352,8 @@ impl<'a> Parser<'a> {
     }
 
     fn at_label(&mut self, alloc: Global, form: Form, token: &Token<'a>) -> Result<(), Stop>
-        ensures { Leaves (shown self.new) result (named form (shown self.old) token.now.spot sign.Colon) }
+        ensures { Leaves (shown self.new) result
+            (named form (shown self.old) token.now.spot sign.Colon) }
     {
         let Some(name) = &self.name else {
             return Err(Stop::Broken(Breach::S1, token.at));
@@ -350,7 +372,8 @@ impl<'a> Parser<'a> {
     }
 
     fn at_flag(&mut self, alloc: Global, form: Form, token: &Token<'a>) -> Result<(), Stop>
-        ensures { Leaves (shown self.new) result (named form (shown self.old) token.now.spot sign.Semicolon) }
+        ensures { Leaves (shown self.new) result
+            (named form (shown self.old) token.now.spot sign.Semicolon) }
     {
         let allowed = self.is_prop(form);
         let Some(name) = &self.name else {
@@ -372,7 +395,8 @@ impl<'a> Parser<'a> {
     }
 
     fn at_equal(&mut self, form: Form, token: &Token<'a>) -> Result<(), Stop>
-        ensures { Leaves (shown self.new) result (named form (shown self.old) token.now.spot sign.Equal) }
+        ensures { Leaves (shown self.new) result
+            (named form (shown self.old) token.now.spot sign.Equal) }
     {
         if self.name.is_none() || !self.is_prop(form) {
             return Err(Stop::Broken(Breach::S1, token.at));
@@ -384,7 +408,8 @@ impl<'a> Parser<'a> {
 
     fn at_child(&mut self, alloc: Global, form: Form, token: &Token<'a>) -> Result<(), Stop>
         requires { (shown self.old).depth < 64 }
-        ensures { Leaves (shown self.new) result (named form (shown self.old) token.now.spot sign.LeftBrace) }
+        ensures { Leaves (shown self.new) result
+            (named form (shown self.old) token.now.spot sign.LeftBrace) }
     {
         let allowed = self.takes_inner() && is_node_form(form);
         let Some(name) = &self.name else {
@@ -418,7 +443,8 @@ impl<'a> Parser<'a> {
         wanted: Wanted,
         token: &Token<'a>,
     ) -> Result<(), Stop>
-        ensures { Leaves (shown self.new) result (directive wanted (shown self.old) token.now.spot token.now.sign) }
+        ensures { Leaves (shown self.new) result
+            (directive wanted (shown self.old) token.now.spot token.now.sign) }
     {
         match (wanted, token.sign) {
             (Wanted::FirstNumber, Sign::Number(_) | Sign::Huge) => {
@@ -448,7 +474,8 @@ impl<'a> Parser<'a> {
 
     fn at_deleted_ref(&mut self, alloc: Global, token: &Token<'a>) -> Result<(), Stop>
         requires { token.now.sign ≡ sign.Ref }
-        ensures { Leaves (shown self.new) result (directive wanted.DeletedRef (shown self.old) token.now.spot sign.Ref) }
+        ensures { Leaves (shown self.new) result
+            (directive wanted.DeletedRef (shown self.old) token.now.spot sign.Ref) }
     {
         let target = target_of(alloc, token)?;
         self.complete();
@@ -461,7 +488,8 @@ impl<'a> Parser<'a> {
 
     fn at_omitted_ref(&mut self, alloc: Global, token: &Token<'a>) -> Result<(), Stop>
         requires { token.now.sign ≡ sign.Ref }
-        ensures { Leaves (shown self.new) result (directive wanted.OmittedRef (shown self.old) token.now.spot sign.Ref) }
+        ensures { Leaves (shown self.new) result
+            (directive wanted.OmittedRef (shown self.old) token.now.spot sign.Ref) }
     {
         let target = target_of(alloc, token)?;
         self.complete();
@@ -474,7 +502,8 @@ impl<'a> Parser<'a> {
 
     fn at_deleted_child(&mut self, alloc: Global, form: Form, token: &Token<'a>) -> Result<(), Stop>
         requires { token.now.sign ≡ sign.Name form }
-        ensures { Leaves (shown self.new) result (directive wanted.DeletedChild (shown self.old) token.now.spot (sign.Name form)) }
+        ensures { Leaves (shown self.new) result
+            (directive wanted.DeletedChild (shown self.old) token.now.spot (sign.Name form)) }
     {
         if !is_node_form(form) {
             return Err(Stop::Broken(Breach::S1, token.at));
@@ -491,7 +520,8 @@ impl<'a> Parser<'a> {
 
     fn at_deleted_prop(&mut self, alloc: Global, form: Form, token: &Token<'a>) -> Result<(), Stop>
         requires { token.now.sign ≡ sign.Name form }
-        ensures { Leaves (shown self.new) result (directive wanted.DeletedProp (shown self.old) token.now.spot (sign.Name form)) }
+        ensures { Leaves (shown self.new) result
+            (directive wanted.DeletedProp (shown self.old) token.now.spot (sign.Name form)) }
     {
         if !is_prop_form(form) {
             return Err(Stop::Broken(Breach::S1, token.at));

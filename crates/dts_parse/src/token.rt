@@ -25,7 +25,7 @@ pub(crate) struct Token<'a> {
 
 impl<'a> Model for Token<'a> {
     ghost use Rattle.dts_parse.specs.Token as spec;
-    ghost use Rattle.dts_parse.specs.Signed.{IsSigned};
+    ghost use Rattle.dts_parse.specs.Inner.Signed.{IsSigned};
 
     ghost Value = { spec.Token };
 

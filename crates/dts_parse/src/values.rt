@@ -3,8 +3,8 @@
 ghost use Rattle.std.specs.Prelude.{◌≡◌, ◌<◌, ◌%◌, ◌^◌, ◌++◌, ◌∷◌, [], Ok, Some, None, OnOk, suc, true, false};
 ghost use Rattle.dts_parse.specs.ActForm.{part_data};
 ghost use Rattle.dts_parse.specs.Fronts.{is_opening};
-ghost use Rattle.dts_parse.specs.Machine.{assigned, at_colon, at_ref, at_width, behind_bits, behind_part, behind_width, closed_list, closed_pairs, in_cells, in_pairs, in_value, labelled, more_labels, put, waits_colon, with_part};
-ghost use Rattle.dts_parse.specs.Shown.{Leaves, shown};
+ghost use Rattle.dts_parse.specs.Inner.Machine.{assigned, at_colon, at_ref, at_width, behind_bits, behind_part, behind_width, closed_list, closed_pairs, in_cells, in_pairs, in_value, labelled, more_labels, put, waits_colon, with_part};
+ghost use Rattle.dts_parse.specs.Inner.Shown.{Leaves, shown};
 ghost use Rattle.dts_parse.specs.StmtData.{Plain, Path};
 ghost use Rattle.dts_parse.specs.Texts.{element_bytes, fits, target_of, text_bytes, width_of};
 ghost use Rattle.dts_parse.specs.Values.{bytes_with, cells_with, list_data, may_close, misfits};
@@ -137,7 +137,8 @@ impl<'a> Parser<'a> {
     /// Where a part of a value may begin.
     pub(crate) fn in_value(&mut self, alloc: Global, token: &Token<'a>) -> Result<(), Stop>
         requires { is_opening false token.now.sign ≡ true → (shown self.old).depth < 64 }
-        ensures { Leaves (shown self.new) result (in_value (shown self.old) token.now.spot token.now.sign) }
+        ensures { Leaves (shown self.new) result
+            (in_value (shown self.old) token.now.spot token.now.sign) }
     {
         match token.sign {
             Sign::Str => self.at_text(alloc, token),
@@ -154,7 +155,8 @@ impl<'a> Parser<'a> {
     }
 
     fn at_text(&mut self, alloc: Global, token: &Token<'a>) -> Result<(), Stop>
-        ensures { Leaves (shown self.new) result (in_value (shown self.old) token.now.spot sign.Str) }
+        ensures { Leaves (shown self.new) result
+            (in_value (shown self.old) token.now.spot sign.Str) }
     {
         let bytes = text_bytes(alloc, token.text)?;
         self.with_part(RawPart::Plain(Part {
@@ -165,7 +167,8 @@ impl<'a> Parser<'a> {
 
     fn at_path(&mut self, alloc: Global, token: &Token<'a>) -> Result<(), Stop>
         requires { token.now.sign ≡ sign.Ref }
-        ensures { Leaves (shown self.new) result (in_value (shown self.old) token.now.spot sign.Ref) }
+        ensures { Leaves (shown self.new) result
+            (in_value (shown self.old) token.now.spot sign.Ref) }
     {
         let target = target_of(alloc, token)?;
         self.with_part(RawPart::Path(target))
@@ -181,7 +184,9 @@ impl<'a> Parser<'a> {
 
     fn at_list(&mut self, width: Width) -> Result<(), Stop>
         requires { (shown self.old).depth < 64 }
-        ensures { Leaves (shown self.new) result (Ok (record (shown self.old) { mode = mode.Cells width listing.Empty; depth = suc (shown self.old).depth })) }
+        ensures { Leaves (shown self.new) result
+            (Ok (record (shown self.old)
+            { mode = mode.Cells width listing.Empty; depth = suc (shown self.old).depth })) }
     {
         self.mode = Mode::Cells(width, Listing::Empty);
         self.depth += 1;
@@ -190,7 +195,9 @@ impl<'a> Parser<'a> {
 
     fn at_pairs(&mut self) -> Result<(), Stop>
         requires { (shown self.old).depth < 64 }
-        ensures { Leaves (shown self.new) result (Ok (record (shown self.old) { mode = mode.Pairs listing.Empty; depth = suc (shown self.old).depth })) }
+        ensures { Leaves (shown self.new) result
+            (Ok (record (shown self.old)
+            { mode = mode.Pairs listing.Empty; depth = suc (shown self.old).depth })) }
     {
         self.mode = Mode::Pairs(Listing::Empty);
         self.depth += 1;
@@ -212,7 +219,8 @@ impl<'a> Parser<'a> {
 
     /// Behind a label's name in a value.
     pub(crate) fn at_colon(&mut self, token: &Token<'a>) -> Result<(), Stop>
-        ensures { Leaves (shown self.new) result (at_colon (shown self.old) token.now.spot token.now.sign) }
+        ensures { Leaves (shown self.new) result
+            (at_colon (shown self.old) token.now.spot token.now.sign) }
     {
         match token.sign {
             Sign::Colon => {
@@ -226,7 +234,8 @@ impl<'a> Parser<'a> {
 
     /// Behind a part of a value.
     pub(crate) fn behind_part(&mut self, alloc: Global, token: &Token<'a>) -> Result<(), Stop>
-        ensures { Leaves (shown self.new) result (behind_part (shown self.old) token.now.spot token.now.sign) }
+        ensures { Leaves (shown self.new) result
+            (behind_part (shown self.old) token.now.spot token.now.sign) }
     {
         match token.sign {
             Sign::Comma => {
@@ -260,7 +269,8 @@ impl<'a> Parser<'a> {
 
     /// Behind `/bits/`.
     pub(crate) fn behind_bits(&mut self, token: &Token<'a>) -> Result<(), Stop>
-        ensures { Leaves (shown self.new) result (behind_bits (shown self.old) token.now.spot token.now.sign) }
+        ensures { Leaves (shown self.new) result
+            (behind_bits (shown self.old) token.now.spot token.now.sign) }
     {
         match token.sign {
             Sign::Number(n) => self.at_width(n, token),
@@ -269,7 +279,8 @@ impl<'a> Parser<'a> {
     }
 
     fn at_width(&mut self, n: u64, token: &Token<'a>) -> Result<(), Stop>
-        ensures { Leaves (shown self.new) result (at_width (shown self.old) token.now.spot (width_of n)) }
+        ensures { Leaves (shown self.new) result
+            (at_width (shown self.old) token.now.spot (width_of n)) }
     {
         match width_of(n) {
             Some(width) => {
@@ -283,7 +294,8 @@ impl<'a> Parser<'a> {
     /// Behind the number of `/bits/`.
     pub(crate) fn behind_width(&mut self, width: Width, token: &Token<'a>) -> Result<(), Stop>
         requires { is_opening false token.now.sign ≡ true → (shown self.old).depth < 64 }
-        ensures { Leaves (shown self.new) result (behind_width width (shown self.old) token.now.spot token.now.sign) }
+        ensures { Leaves (shown self.new) result
+            (behind_width width (shown self.old) token.now.spot token.now.sign) }
     {
         match token.sign {
             Sign::Less => self.at_list(width),
@@ -335,7 +347,8 @@ impl<'a> Parser<'a> {
         listing: Listing,
         token: &Token<'a>,
     ) -> Result<(), Stop>
-        ensures { Leaves (shown self.new) result (closed_list width listing (shown self.old) token.now.spot) }
+        ensures { Leaves (shown self.new) result
+            (closed_list width listing (shown self.old) token.now.spot) }
     {
         if !may_close(listing) {
             return Err(Stop::Broken(Breach::S1, token.at));
@@ -357,7 +370,8 @@ impl<'a> Parser<'a> {
         token: &Token<'a>,
     ) -> Result<(), Stop>
         requires { is_opening false token.now.sign ≡ true → (shown self.old).depth < 64 }
-        ensures { Leaves (shown self.new) result (in_cells width listing (shown self.old) token.now.spot token.now.sign) }
+        ensures { Leaves (shown self.new) result
+            (in_cells width listing (shown self.old) token.now.spot token.now.sign) }
     {
         match token.sign {
             Sign::Number(n) => self.put(width, false, Some(n), token.at),
@@ -373,7 +387,14 @@ impl<'a> Parser<'a> {
 
     fn at_group(&mut self, width: Width, token: &Token<'a>) -> Result<(), Stop>
         requires { (shown self.old).depth < 64 }
-        ensures { Leaves (shown self.new) result (Ok (record (shown self.old) { mode = mode.Operand width; depth = suc (shown self.old).depth; begin = token.now.spot.at; long = 1 })) }
+        ensures { Leaves (shown self.new) result
+            (Ok (record (shown self.old) {
+              mode = mode.Operand width;
+              depth = suc (shown self.old).depth;
+              begin =
+                  token.now.spot.at;
+              long = 1;
+            })) }
     {
         self.mode = Mode::Operand(width);
         self.depth += 1;
@@ -388,7 +409,8 @@ impl<'a> Parser<'a> {
         listing: Listing,
         token: &Token<'a>,
     ) -> Result<(), Stop>
-        ensures { Leaves (shown self.new) result (closed_pairs listing (shown self.old) token.now.spot) }
+        ensures { Leaves (shown self.new) result
+            (closed_pairs listing (shown self.old) token.now.spot) }
     {
         if !may_close(listing) {
             return Err(Stop::Broken(Breach::S1, token.at));
@@ -410,7 +432,8 @@ impl<'a> Parser<'a> {
         listing: Listing,
         token: &Token<'a>,
     ) -> Result<(), Stop>
-        ensures { Leaves (shown self.new) result (in_pairs listing (shown self.old) token.now.spot token.now.sign) }
+        ensures { Leaves (shown self.new) result
+            (in_pairs listing (shown self.old) token.now.spot token.now.sign) }
     {
         match token.sign {
             Sign::Pair(byte) => self.at_pair(byte),
@@ -421,7 +444,9 @@ impl<'a> Parser<'a> {
     }
 
     fn at_pair(&mut self, byte: u8) -> Result<(), Stop>
-        ensures { Leaves (shown self.new) result (Ok (record (shown self.old) { mode = mode.Pairs listing.Elements; bytes = (shown self.old).bytes ++ byte ∷ [] })) }
+        ensures { Leaves (shown self.new) result
+            (Ok (record (shown self.old)
+            { mode = mode.Pairs listing.Elements; bytes = (shown self.old).bytes ++ byte ∷ [] })) }
     {
         self.mode = Mode::Pairs(Listing::Elements);
         self.bytes.push(byte)?;

@@ -1,3 +1,4 @@
+pub mod AnswerLaws
 pub mod ApartLaws
 pub mod Forests
 pub mod Headers
@@ -6,4 +7,5 @@ pub mod PromiseLaws
 pub mod Puts
 pub mod RunLaws
 pub mod SmallLaws
+pub mod SourceLaws
 pub mod TokenLaws

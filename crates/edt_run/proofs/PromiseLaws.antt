@@ -1,319 +1,277 @@
 -- The steps of a run keep its promises.
-use Rattle.std.proofs.Common.{◌≡◌, ◌-◌, ◌^◌, ◌<◌, ◌≤◌, ◌++◌, ◌∙◌, ◌⊎◌, ℕ, List, [], ◌∷◌, Option, Some, None, IsSomeAnd, IfSome, IsTrue, length, refl, sym, ap, subst, true, false, codes, Bool, if◌then◌else◌, inl, inr, arith}
+use Rattle.std.proofs.Common.{◌≡◌, ◌-◌, ◌^◌, ◌<◌, ◌≤◌, ◌++◌, ◌∙◌, ◌⊎◌, ℕ, List, [], ◌∷◌, Option, Some, None, IfSome, IsTrue, length, refl, sym, ap, subst, true, false, Bool, if◌then◌else◌, inl, inr, arith}
 use Rattle.std.proofs.lemmas.List.{append-nil}
-use Rattle.std.specs.Option.{unwrap_or}
-use Rattle.edt_base.specs.declared.outside.Call.TheVariants as call
-use Rattle.edt_base.specs.Outside.{FilesSeen, SinkSeen, Rose, Gains, GainsPrefix, IsSure, Wrote, held_of, content}
+use Rattle.edt_base.specs.declared.outside.Call.{Call}
+use Rattle.edt_base.specs.Outside.{FilesSeen, SinkSeen, Rose, Gains, GainsPrefix, IsSure, Wrote, held_of}
 use Rattle.edt_run.specs.declared.top.Status.{Status}
 use Rattle.edt_run.specs.declared.top.Status.TheVariants as status
-use Rattle.edt_run.specs.Forest.{Forest}
-use Rattle.edt_run.specs.Small.{IsSmall}
-use Rattle.edt_run.specs.Header.{header}
-use Rattle.edt_run.specs.Promises.{Run, Ran, KeepsPromises, NothingRose, IsAnswer, IsAnswerTo, IsAnswerOver, IsCause, IsCauseOver, job, source_limit, note_line, is_plain, KeepsFiles, HasCause, EndsWithAnswer}
-use Rattle.edt_run.proofs.SmallLaws.{one_tree}
+use Rattle.edt_run.specs.Answer.{Answer, usage_line, write_line, memory_line, read_line}
+use Rattle.edt_run.specs.Job.{JobData, job_of}
+use Rattle.edt_run.specs.Promises.{Run, KeepsPromises, NothingRose, IsAnswer, IsAnswerIn, IsAnswerFrom, IsReadOf, IsReadLine, ReadFailed, HasCause, KeepsFiles, EndsWithAnswer, is_plain}
+use Rattle.edt_run.specs.Steps.{IsWantedAs, Ran}
+use Rattle.edt_run.proofs.AnswerLaws.{one_from, answer_quiet, answer_used}
 
--- two answers over one source are the same
-one_over : (source : List ℕ) (s : Status) (t : List ℕ) (s' : Status) (t' : List ℕ) → IsAnswerOver source s t → IsAnswerOver source s' t' → (s ≡ s') × (t ≡ t')
-one_over source status.Limit t status.Limit t' h k = (refl, h.0 ∙ sym k.0)
-one_over source status.Limit t status.Done t' h k = absurd (omega (arith, h.1, k.0))
-one_over source status.Limit t status.Rule t' h k = absurd (omega (arith, h.1, k.1))
-one_over source status.Limit t _ t' h k = absurd k
-one_over source status.Done t status.Limit t' h k = absurd (omega (arith, h.0, k.1))
-one_over source status.Done t status.Done t' h k = (refl, h.1.2 ∙ (ap header (one_tree source h.1.0 k.1.0 h.1.1 k.1.1) ∙ sym k.1.2))
-one_over source status.Done t status.Rule t' h k = absurd (k.2 h.1.0 h.1.1)
-one_over source status.Done t _ t' h k = absurd k
-one_over source status.Rule t status.Limit t' h k = absurd (omega (arith, h.1, k.1))
-one_over source status.Rule t status.Done t' h k = absurd (h.2 k.1.0 k.1.1)
-one_over source status.Rule t status.Rule t' h k = (refl, h.0 ∙ sym k.0)
-one_over source status.Rule t _ t' h k = absurd k
-one_over source _ t s' t' h k = absurd h
+-- ---- what is wanted
 
-one_to : (held : List (List ℕ × List ℕ)) (o : Option (List ℕ)) (s : Status) (t : List ℕ) (s' : Status) (t' : List ℕ) → IsAnswerTo held o s t → IsAnswerTo held o s' t' → (s ≡ s') × (t ≡ t')
-one_to held None status.Usage t status.Usage t' h k = (refl, h ∙ sym k)
-one_to held None status.Usage t _ t' h k = absurd k
-one_to held None _ t s' t' h k = absurd h
-one_to held (Some name) s t s' t' h k = one_over (content held name) s t s' t' h k
+-- a call failed or memory was wanted, and no text is
+abbrev IsStop : FilesSeen → FilesSeen → Option JobData → Status → Answer → Type 0
+IsStop old new job status.Read wanted = (wanted.text ≡ []) × IsReadLine old new job wanted.line
+IsStop old new job status.Memory wanted = (wanted.text ≡ []) × (wanted.line ≡ memory_line)
+IsStop old new job _ wanted = ⊥
 
--- a run has one answer
-pub one_answer : (held : List (List ℕ × List ℕ)) (words : List (List ℕ)) (s : Status) (t : List ℕ) (s' : Status) (t' : List ℕ)
-    → IsAnswer held words s t → IsAnswer held words s' t' → (s ≡ s') × (t ≡ t')
-one_answer held words s t s' t' h k = one_to held (job words) s t s' t' h k
+-- what is wanted is the job's answer, or the run stopped
+abbrev IsEither : FilesSeen → FilesSeen → Option JobData → Status → Answer → Type 0
+IsEither old new job said wanted = IsAnswerFrom old job wanted ⊎ IsStop old new job said wanted
 
--- a status that tells of a failed read or of memory
-abbrev IsFailure : FilesSeen → FilesSeen → Status → Type 0
-IsFailure old new status.Read = Rose old.faults new.faults
-IsFailure old new status.Memory = Unit {0}
-IsFailure old new _ = ⊥
+either : (old new : FilesSeen) (job : Option JobData) (said : Status) (wanted : Answer) → IsWantedAs old new job said wanted → IsEither old new job said wanted
+either old new job status.Read wanted h = inr h
+either old new job status.Memory wanted h = inr h
+either old new job status.Write wanted h = absurd h
+either old new job status.Done wanted h = inl h
+either old new job status.Rule wanted h = inl h
+either old new job status.Usage wanted h = inl h
+either old new job status.Limit wanted h = inl h
 
--- what a run wants is the answer, or something failed and it wants no text
-caused_over : (old new : FilesSeen) (held : List (List ℕ × List ℕ)) (name : List ℕ) (wanted : Status) (text : List ℕ) → held_of old ≡ Some held
-    → IsCauseOver old new name wanted text → IsAnswerOver (content held name) wanted text ⊎ ((text ≡ []) × IsFailure old new wanted)
-caused_over old new held name status.Done text told cause =
-    let P : List (List ℕ × List ℕ) → Type 0 = λ h. (length (content h name) ≤ source_limit) × IsSmall (content h name) cause.0 in
-    let known = subst (λ o. IfSome o P) told cause.2 in
-    inl (known.0, (cause.0, known.1, cause.1))
-caused_over old new held name status.Rule text told cause =
-    let P : List (List ℕ × List ℕ) → Type 0 = λ h. (length (content h name) ≤ source_limit) × ((nodes : Forest) → IsSmall (content h name) nodes → ⊥) in
-    let known = subst (λ o. IfSome o P) told cause.1 in
-    inl (cause.0, known.0, known.1)
-caused_over old new held name status.Limit text told cause =
-    let P : List (List ℕ × List ℕ) → Type 0 = λ h. source_limit < length (content h name) in
-    inl (cause.0, subst (λ o. IfSome o P) told cause.1)
-caused_over old new held name status.Read text told cause = inr (cause.0, cause.1)
-caused_over old new held name status.Memory text told cause = inr (cause, tt)
-caused_over old new held name _ text told cause = absurd cause
+stop_text : (old new : FilesSeen) (job : Option JobData) (said : Status) (wanted : Answer) → IsStop old new job said wanted → wanted.text ≡ []
+stop_text old new job status.Read wanted h = h.0
+stop_text old new job status.Memory wanted h = h.0
+stop_text old new job _ wanted h = absurd h
 
-caused : (old new : FilesSeen) (held : List (List ℕ × List ℕ)) (o : Option (List ℕ)) (wanted : Status) (text : List ℕ) → held_of old ≡ Some held
-    → IsCause old new o wanted text → IsAnswerTo held o wanted text ⊎ ((text ≡ []) × IsFailure old new wanted)
-caused old new held None status.Usage text told cause = inl cause
-caused old new held None _ text told cause = absurd cause
-caused old new held (Some name) wanted text told cause = caused_over old new held name wanted text told cause
+plain_stop : (old new : FilesSeen) (job : Option JobData) (said : Status) (wanted : Answer) → IsTrue (is_plain said) → IsStop old new job said wanted → ⊥
+plain_stop old new job status.Read wanted p h = cc
+plain_stop old new job status.Memory wanted p h = cc
+plain_stop old new job _ wanted p h = h
 
--- where the files tell, a fact of what they hold is a fact under `IfSome`
-told : (o : Option (List (List ℕ × List ℕ))) (P : List (List ℕ × List ℕ) → Type 0) → ((held : List (List ℕ × List ℕ)) → o ≡ Some held → P held) → IfSome o P
-told None P f = tt
-told (Some held) P f = f held refl
+-- a plain status is that of the job's answer
+plain_answer : (old new : FilesSeen) (job : Option JobData) (said : Status) (wanted : Answer) → IsTrue (is_plain said) → IsEither old new job said wanted → IsAnswerFrom old job wanted
+plain_answer old new job said wanted p (inl h) = h
+plain_answer old new job said wanted p (inr h) = absurd (plain_stop old new job said wanted p h)
 
--- what the output gained, whatever text it was
-gained_front : (old new : SinkSeen) (text : List ℕ) (written : Bool) → Wrote old new text written → GainsPrefix old new text
-gained_front old new text true wrote = (text, [], sym (append-nil text), wrote.taken)
-gained_front old new text false wrote = wrote.taken.1
+-- a line with its cause, by the status
+cause_as : (r : Run) (said : Status) (wanted : Answer) → said ≡ wanted.status → IsWantedAs r.files_old r.files_new (job_of r.words) said wanted → HasCause r said wanted.line
+cause_as r status.Read wanted is h = h.1
+cause_as r status.Memory wanted is h = h.1
+cause_as r status.Write wanted is h = absurd h
+cause_as r status.Done wanted is h = (wanted, h, is, refl)
+cause_as r status.Rule wanted is h = (wanted, h, is, refl)
+cause_as r status.Usage wanted is h = (wanted, h, is, refl)
+cause_as r status.Limit wanted is h = (wanted, h, is, refl)
 
--- no text is a front of every text
-front_of_any : (old new : SinkSeen) (text other : List ℕ) → text ≡ [] → GainsPrefix old new text → GainsPrefix old new other
-front_of_any old new text other none gained =
-    let nil : gained.0 ≡ [] = append_nil-front gained.0 gained.1 (sym gained.2 ∙ none) in
-    ([], other, refl, subst (λ t. Gains old new t) nil gained.3)
-  where
-    append_nil-front : (xs ys : List ℕ) → xs ++ ys ≡ [] → xs ≡ []
-    append_nil-front [] ys e = refl
-    append_nil-front (x ∷ xs) ys e = cc
+-- ---- what the output gained
 
--- a text that wasn't there was gained whole
+-- whatever became of writing a text, a prefix of it was gained
+gained_prefix : (old new : SinkSeen) (text : List ℕ) (written : Bool) → Wrote old new text written → GainsPrefix old new text
+gained_prefix old new text true wrote = (text, [], sym (append-nil text), wrote.taken)
+gained_prefix old new text false wrote = wrote.taken.1
+
+nil_before : (xs ys : List ℕ) → xs ++ ys ≡ [] → xs ≡ []
+nil_before [] ys e = refl
+nil_before (x ∷ xs) ys e = cc
+
+-- of no text nothing was gained
 gained_nothing : (old new : SinkSeen) (text : List ℕ) → text ≡ [] → GainsPrefix old new text → Gains old new []
 gained_nothing old new text none gained =
-    let front = front_of_any old new text [] none gained in
-    subst (λ t. Gains old new t) (nil_of front.0 front.1 (sym front.2)) front.3
-  where
-    nil_of : (xs ys : List ℕ) → xs ++ ys ≡ [] → xs ≡ []
-    nil_of [] ys e = refl
-    nil_of (x ∷ xs) ys e = cc
+    subst (λ t. Gains old new t) (nil_before gained.0 gained.1 (sym gained.2 ∙ none)) gained.3
+
+nothing_is_prefix : (old new : SinkSeen) (text : List ℕ) → Gains old new [] → GainsPrefix old new text
+nothing_is_prefix old new text gained = ([], text, refl, gained)
 
 longer_sure : (old new : SinkSeen) (m n : ℕ) → m ≤ n → IsSure old new m → IsSure old new n
 longer_sure old new m n le sure = record { faults = sure.faults; room = omega (arith, sure.room) }
 
--- the status that was said, and whether the note took its line
-abbrev said_of : Bool → Status → Status
-said_of written wanted = if written then wanted else status.Write
+-- ---- the steps, over plain states
 
--- the steps of a run, over plain states
-record Steps (r : Run) (wanted : Status) (text : List ℕ) (written noted : Bool) : Type 0 where
+record Steps (r : Run) (wanted : Answer) (written noted : Bool) : Type 0 where
   files : KeepsFiles r.files_old r.files_new
-  cause : IsCause r.files_old r.files_new (job r.words) wanted text
-  output : Wrote r.out_old r.out_new text written
-  note : Wrote r.note_old r.note_new (note_line r.words (said_of written wanted)) noted
-  status : r.status ≡ (if noted then said_of written wanted else status.Write)
+  idle : job_of r.words ≡ None → r.files_new ≡ r.files_old
+  cause : IsWantedAs r.files_old r.files_new (job_of r.words) wanted.status wanted
+  output : Wrote r.out_old r.out_new wanted.text written
+  note : Wrote r.note_old r.note_new (if written then wanted.line else write_line) noted
+  status : r.status ≡ (if noted then (if written then wanted.status else status.Write) else status.Write)
 
-steps_of : (r : Run) (ran : Ran r) → Steps r ran.wanted ran.text ran.written ran.noted
-steps_of r ran = record { files = ran.files; cause = ran.cause; output = ran.output; note = ran.note; status = ran.status }
+steps_of : (r : Run) (ran : Ran r) → Steps r ran.wanted ran.written ran.noted
+steps_of r ran = record { files = ran.files; idle = ran.idle; cause = ran.cause; output = ran.output; note = ran.note; status = ran.status }
 
--- the output gained a front of the text that was wanted
-out_front : (r : Run) (wanted : Status) (text : List ℕ) (written noted : Bool) → Steps r wanted text written noted → GainsPrefix r.out_old r.out_new text
-out_front r wanted text written noted steps = gained_front r.out_old r.out_new text written steps.output
+either_in : (r : Run) (wanted : Answer) (written noted : Bool) → Steps r wanted written noted → IsEither r.files_old r.files_new (job_of r.words) wanted.status wanted
+either_in r wanted written noted steps = either r.files_old r.files_new (job_of r.words) wanted.status wanted steps.cause
 
--- what was wanted against the answer: the same, or nothing was to be written
-abbrev IsAgainst : Run → Status → List ℕ → Status → List ℕ → Type 0
-IsAgainst r wanted text answer other = ((wanted ≡ answer) × (text ≡ other)) ⊎ ((text ≡ []) × IsFailure r.files_old r.files_new wanted)
+prefix_in : (r : Run) (wanted : Answer) (written noted : Bool) → Steps r wanted written noted → GainsPrefix r.out_old r.out_new wanted.text
+prefix_in r wanted written noted steps = gained_prefix r.out_old r.out_new wanted.text written steps.output
 
-against_either : (r : Run) (wanted : Status) (text : List ℕ) (held : List (List ℕ × List ℕ)) (answer : Status) (other : List ℕ) → IsAnswer held r.words answer other
-    → IsAnswerTo held (job r.words) wanted text ⊎ ((text ≡ []) × IsFailure r.files_old r.files_new wanted) → IsAgainst r wanted text answer other
-against_either r wanted text held answer other is (inl same) = inl (one_answer held r.words wanted text answer other same is)
-against_either r wanted text held answer other is (inr failed) = inr failed
+-- with a status other than 4, the status is what was wanted, and all was written
+record IsWhole (r : Run) (wanted : Answer) : Type 0 where
+  status : r.status ≡ wanted.status
+  gained : Gains r.out_old r.out_new wanted.text
+  noted : Gains r.note_old r.note_new wanted.line
 
-against : (r : Run) (wanted : Status) (text : List ℕ) (written noted : Bool) → Steps r wanted text written noted
-    → (held : List (List ℕ × List ℕ)) → held_of r.files_old ≡ Some held → (answer : Status) (other : List ℕ) → IsAnswer held r.words answer other
-    → IsAgainst r wanted text answer other
-against r wanted text written noted steps held tells answer other is =
-    against_either r wanted text held answer other is (caused r.files_old r.files_new held (job r.words) wanted text tells steps.cause)
+whole_of : (r : Run) (wanted : Answer) (written noted : Bool) → Steps r wanted written noted → (r.status ≡ status.Write → ⊥) → IsWhole r wanted
+whole_of r wanted true true steps isnt = record { status = steps.status; gained = steps.output.taken; noted = steps.note.taken }
+whole_of r wanted true false steps isnt = absurd (isnt steps.status)
+whole_of r wanted false true steps isnt = absurd (isnt steps.status)
+whole_of r wanted false false steps isnt = absurd (isnt steps.status)
 
--- the output gained a front of the answer's text
-front_either : (r : Run) (wanted : Status) (text : List ℕ) (answer : Status) (other : List ℕ)
-    → GainsPrefix r.out_old r.out_new text → IsAgainst r wanted text answer other → GainsPrefix r.out_old r.out_new other
-front_either r wanted text answer other gained (inl same) = subst (λ t. GainsPrefix r.out_old r.out_new t) same.1 gained
-front_either r wanted text answer other gained (inr failed) = front_of_any r.out_old r.out_new text other failed.0 gained
-
--- an output with sure room for the answer's text didn't fail
-sure_either : (r : Run) (wanted : Status) (text : List ℕ) (written : Bool) (answer : Status) (other : List ℕ)
-    → Wrote r.out_old r.out_new text written → IsAgainst r wanted text answer other → length other ≤ r.out_old.room
-    → IsSure r.out_old r.out_new (length other)
-sure_either r wanted text written answer other wrote (inl same) fits =
-    let room : length text ≤ r.out_old.room = subst (λ t. length t ≤ r.out_old.room) (sym same.1) fits in
-    subst (λ t. IsSure r.out_old r.out_new (length t)) same.1 (wrote.sure room).1
-sure_either r wanted text written answer other wrote (inr failed) fits =
-    let none : length text ≡ 0 = ap length failed.0 in
-    let room : length text ≤ r.out_old.room = omega arith in
-    longer_sure r.out_old r.out_new (length text) (length other) (omega arith) (wrote.sure room).1
-
--- where nothing failed, the status is the answer's or that of want of memory
-complete_either : (r : Run) (wanted : Status) (text : List ℕ) (written noted : Bool) (answer : Status) (other : List ℕ)
-    → Steps r wanted text written noted → IsAgainst r wanted text answer other → NothingRose r → (r.status ≡ answer) ⊎ (r.status ≡ status.Memory)
-complete_either r wanted text true true answer other steps (inl same) none = inl (steps.status ∙ same.0)
-complete_either r wanted text true true answer other steps (inr failed) none = inr (steps.status ∙ memory_of wanted failed.1)
-  where
-    memory_of : (s : Status) → IsFailure r.files_old r.files_new s → s ≡ status.Memory
-    memory_of status.Read rose = absurd (none.0 rose)
-    memory_of status.Memory _ = refl
-    memory_of _ h = absurd h
-complete_either r wanted text true false answer other steps against none = absurd (none.2 steps.note.taken.0)
-complete_either r wanted text false noted answer other steps against none = absurd (none.1 steps.output.taken.0)
-
--- with a plain status, the status is what was wanted, and all was written
-record IsWhole (r : Run) (wanted : Status) (text : List ℕ) : Type 0 where
-  status : r.status ≡ wanted
-  gained : Gains r.out_old r.out_new text
-  noted : Gains r.note_old r.note_new (note_line r.words wanted)
-
-whole_of : (r : Run) (wanted : Status) (text : List ℕ) (written noted : Bool) → Steps r wanted text written noted → (r.status ≡ status.Write → ⊥) → IsWhole r wanted text
-whole_of r wanted text true true steps isnt = record { status = steps.status; gained = steps.output.taken; noted = steps.note.taken }
-whole_of r wanted text true false steps isnt = absurd (isnt steps.status)
-whole_of r wanted text false true steps isnt = absurd (isnt steps.status)
-whole_of r wanted text false false steps isnt = absurd (isnt steps.status)
-
--- the cause of what was wanted is the cause of the status
-cause_of : (r : Run) (wanted : Status) (text : List ℕ) → IsCause r.files_old r.files_new (job r.words) wanted text → r.status ≡ wanted
-    → IsCause r.files_old r.files_new (job r.words) r.status text
-cause_of r wanted text cause is = subst (λ s. IsCause r.files_old r.files_new (job r.words) s text) (sym is) cause
-
-plain_isnt_write : (s : Status) → IsTrue (is_plain s) → s ≡ status.Write → ⊥
-plain_isnt_write s plain is = let no : false ≡ true = subst (λ t. is_plain t ≡ true) is plain in cc
+as_wanted : (r : Run) (wanted : Answer) (said : Status) → IsWantedAs r.files_old r.files_new (job_of r.words) wanted.status wanted → IsWhole r wanted → r.status ≡ said
+    → IsWantedAs r.files_old r.files_new (job_of r.words) said wanted
+as_wanted r wanted said cause whole is = subst (λ s. IsWantedAs r.files_old r.files_new (job_of r.words) s wanted) (sym whole.status ∙ is) cause
 
 isnt_write : (s other : Status) → s ≡ other → (other ≡ status.Write → ⊥) → s ≡ status.Write → ⊥
 isnt_write s other is isnt write = isnt (sym is ∙ write)
 
--- a plain status is the answer's
-answer_either : (r : Run) (wanted : Status) (text : List ℕ) (held : List (List ℕ × List ℕ)) → IsWhole r wanted text → IsTrue (is_plain r.status)
-    → IsAnswerTo held (job r.words) wanted text ⊎ ((text ≡ []) × IsFailure r.files_old r.files_new wanted)
-    → (t : List ℕ) × IsAnswer held r.words r.status t × Gains r.out_old r.out_new t × Gains r.note_old r.note_new (note_line r.words r.status)
-answer_either r wanted text held whole plain (inl is) =
-    (text, subst (λ s. IsAnswer held r.words s text) (sym whole.status) is, whole.gained, subst (λ s. Gains r.note_old r.note_new (note_line r.words s)) (sym whole.status) whole.noted)
-answer_either r wanted text held whole plain (inr failed) = absurd (plain_failed wanted (subst (λ s. IsTrue (is_plain s)) whole.status plain) failed.1)
+plain_isnt_write : (s : Status) → IsTrue (is_plain s) → s ≡ status.Write → ⊥
+plain_isnt_write s plain is = let no : false ≡ true = subst (λ t. is_plain t ≡ true) is plain in cc
+
+-- ---- sentence by sentence
+
+keeps_answer : (r : Run) (wanted : Answer) → IsEither r.files_old r.files_new (job_of r.words) wanted.status wanted → IsWhole r wanted → IsTrue (is_plain r.status)
+    → (answer : Answer) × (IsAnswerIn r answer) × (r.status ≡ answer.status) × (Gains r.out_old r.out_new answer.text) × (Gains r.note_old r.note_new answer.line)
+keeps_answer r wanted e whole plain = (
+  wanted,
+  plain_answer r.files_old r.files_new (job_of r.words) wanted.status wanted (subst (λ s. IsTrue (is_plain s)) whole.status plain) e,
+  whole.status,
+  whole.gained,
+  whole.noted,
+)
+
+keeps_output : (r : Run) (wanted : Answer) → IsEither r.files_old r.files_new (job_of r.words) wanted.status wanted → GainsPrefix r.out_old r.out_new wanted.text
+    → Gains r.out_old r.out_new [] ⊎ ((answer : Answer) × (IsAnswerIn r answer) × GainsPrefix r.out_old r.out_new answer.text)
+keeps_output r wanted (inl h) gained = inr (wanted, h, gained)
+keeps_output r wanted (inr h) gained = inl (gained_nothing r.out_old r.out_new wanted.text (stop_text r.files_old r.files_new (job_of r.words) wanted.status wanted h) gained)
+
+-- where the files tell: what was wanted is the answer, or the run stopped
+against : (r : Run) (wanted answer : Answer) (held : List (List ℕ × List ℕ)) → held_of r.files_old ≡ Some held → IsEither r.files_old r.files_new (job_of r.words) wanted.status wanted
+    → IsAnswerIn r answer → (wanted ≡ answer) ⊎ IsStop r.files_old r.files_new (job_of r.words) wanted.status wanted
+against r wanted answer held tells (inl h) is = inl (one_from r.files_old held tells (job_of r.words) wanted answer h is)
+against r wanted answer held tells (inr h) is = inr h
+
+told : (o : Option (List (List ℕ × List ℕ))) (P : List (List ℕ × List ℕ) → Type 0) → ((held : List (List ℕ × List ℕ)) → o ≡ Some held → P held) → IfSome o P
+told None P f = tt
+told (Some held) P f = f held refl
+
+complete_either : (r : Run) (wanted answer : Answer) (written noted : Bool) → Steps r wanted written noted
+    → (wanted ≡ answer) ⊎ IsStop r.files_old r.files_new (job_of r.words) wanted.status wanted → NothingRose r → (r.status ≡ answer.status) ⊎ (r.status ≡ status.Memory)
+complete_either r wanted answer true true steps (inl same) none = inl (steps.status ∙ ap (λ (a : Answer). a.status) same)
+complete_either r wanted answer true true steps (inr h) none = inr (steps.status ∙ memory_of wanted.status h)
   where
-    plain_failed : (s : Status) → IsTrue (is_plain s) → IsFailure r.files_old r.files_new s → ⊥
-    plain_failed status.Read p h = cc
-    plain_failed status.Memory p h = cc
-    plain_failed _ p h = h
+    memory_of : (s : Status) → IsStop r.files_old r.files_new (job_of r.words) s wanted → s ≡ status.Memory
+    memory_of status.Read h = absurd (none.files h.1.1.rose)
+    memory_of status.Memory h = refl
+    memory_of _ h = absurd h
+complete_either r wanted answer true false steps e none = absurd (none.note steps.note.taken.0)
+complete_either r wanted answer false noted steps e none = absurd (none.out steps.output.taken.0)
 
-usage_of : (old new : FilesSeen) (o : Option (List ℕ)) (text : List ℕ) → IsCause old new o status.Usage text → o ≡ None
-usage_of old new None text cause = refl
-usage_of old new (Some name) text cause = absurd cause
+prefix_either : (r : Run) (wanted answer : Answer) → GainsPrefix r.out_old r.out_new wanted.text
+    → (wanted ≡ answer) ⊎ IsStop r.files_old r.files_new (job_of r.words) wanted.status wanted → GainsPrefix r.out_old r.out_new answer.text
+prefix_either r wanted answer gained (inl same) = subst (λ (a : Answer). GainsPrefix r.out_old r.out_new a.text) same gained
+prefix_either r wanted answer gained (inr h) =
+    nothing_is_prefix r.out_old r.out_new answer.text (gained_nothing r.out_old r.out_new wanted.text (stop_text r.files_old r.files_new (job_of r.words) wanted.status wanted h) gained)
 
-text_of_no_job : (old new : FilesSeen) (o : Option (List ℕ)) (wanted : Status) (text : List ℕ) → IsCause old new o wanted text → o ≡ None → text ≡ []
-text_of_no_job old new None status.Usage text cause none = cause
-text_of_no_job old new None _ text cause none = absurd cause
-text_of_no_job old new (Some name) wanted text cause none = cc
+sure_either : (r : Run) (wanted answer : Answer) (written : Bool) → Wrote r.out_old r.out_new wanted.text written
+    → (wanted ≡ answer) ⊎ IsStop r.files_old r.files_new (job_of r.words) wanted.status wanted → length answer.text ≤ r.out_old.room
+    → IsSure r.out_old r.out_new (length answer.text)
+sure_either r wanted answer written wrote (inl same) fits =
+    let room : length wanted.text ≤ r.out_old.room = subst (λ (a : Answer). length a.text ≤ r.out_old.room) (sym same) fits in
+    subst (λ (a : Answer). IsSure r.out_old r.out_new (length a.text)) same (wrote.sure room).1
+sure_either r wanted answer written wrote (inr h) fits =
+    let none : length wanted.text ≡ 0 = ap length (stop_text r.files_old r.files_new (job_of r.words) wanted.status wanted h) in
+    let room : length wanted.text ≤ r.out_old.room = omega arith in
+    longer_sure r.out_old r.out_new (length wanted.text) (length answer.text) (omega arith) (wrote.sure room).1
 
-quiet_text : (old new : FilesSeen) (o : Option (List ℕ)) (wanted : Status) (text : List ℕ) → IsCause old new o wanted text → (wanted ≡ status.Done → ⊥) → text ≡ []
-quiet_text old new None status.Usage text cause isnt = cause
-quiet_text old new None _ text cause isnt = absurd cause
-quiet_text old new (Some name) status.Done text cause isnt = absurd (isnt refl)
-quiet_text old new (Some name) status.Rule text cause isnt = cause.0
-quiet_text old new (Some name) status.Read text cause isnt = cause.0
-quiet_text old new (Some name) status.Memory text cause isnt = cause
-quiet_text old new (Some name) status.Limit text cause isnt = cause.0
-quiet_text old new (Some name) _ text cause isnt = absurd cause
+usage_of : (r : Run) (wanted : Answer) → IsAnswerIn r wanted → wanted.status ≡ status.Usage → job_of r.words ≡ None
+usage_of r wanted h is = answer_used (job_of r.words) h.0 wanted h.2 is
 
-no_write : (old new : FilesSeen) (o : Option (List ℕ)) (text : List ℕ) → IsCause old new o status.Write text → ⊥
-no_write old new None text cause = cause
-no_write old new (Some name) text cause = cause
+usage_noted : (r : Run) (wanted : Answer) → IsAnswerIn r wanted → job_of r.words ≡ None → Gains r.note_old r.note_new wanted.line → Gains r.note_old r.note_new usage_line
+usage_noted r wanted h none noted =
+    subst (λ (a : Answer). Gains r.note_old r.note_new a.line) (subst (λ o. IsAnswer o h.0 wanted) none h.2) noted
 
--- status 4 has a count that rose
-write_either : (r : Run) (wanted : Status) (text : List ℕ) (written noted : Bool) → Steps r wanted text written noted → r.status ≡ status.Write
-    → Rose r.note_old.faults r.note_new.faults ⊎ (Rose r.out_old.faults r.out_new.faults × Gains r.note_old r.note_new (codes "edt: write\n"))
-write_either r wanted text true true steps is =
-    let wants : wanted ≡ status.Write = sym steps.status ∙ is in
-    absurd (no_write r.files_old r.files_new (job r.words) text (subst (λ s. IsCause r.files_old r.files_new (job r.words) s text) wants steps.cause))
-write_either r wanted text false true steps is = inr (steps.output.taken.0, steps.note.taken)
-write_either r wanted text written false steps is = inl steps.note.taken.0
+-- on words that are no job
+no_job_text : (r : Run) (wanted : Answer) → job_of r.words ≡ None → IsEither r.files_old r.files_new (job_of r.words) wanted.status wanted → wanted.text ≡ []
+no_job_text r wanted none (inl h) = ap (λ (a : Answer). a.text) (subst (λ o. IsAnswer o h.0 wanted) none h.2)
+no_job_text r wanted none (inr h) = stop_text r.files_old r.files_new (job_of r.words) wanted.status wanted h
 
--- status 3 has the read that failed
-read_of : (r : Run) (o : Option (List ℕ)) (text : List ℕ) → IsCause r.files_old r.files_new o status.Read text
-    → Gains r.note_old r.note_new (codes "edt: read " ++ (unwrap_or o [] ++ codes "\n"))
-    → IsSomeAnd o (λ name. Rose r.files_old.faults r.files_new.faults × IfSome r.files_new.told (λ t. t.last ≡ Some (call.Read name))
-    × Gains r.note_old r.note_new (codes "edt: read " ++ (name ++ codes "\n")))
-read_of r None text cause noted = absurd cause
-read_of r (Some name) text cause noted = (cause.1, cause.2, noted)
+no_job_status : (r : Run) (wanted : Answer) (said : Status) → said ≡ wanted.status → job_of r.words ≡ None → IsWantedAs r.files_old r.files_new (job_of r.words) said wanted
+    → (said ≡ status.Usage) ⊎ (said ≡ status.Memory)
+no_job_status r wanted status.Read is none h = absurd (subst (λ o. IsReadOf o h.1.0) none h.1.1.is_of_job)
+no_job_status r wanted status.Memory is none h = inr refl
+no_job_status r wanted status.Write is none h = absurd h
+no_job_status r wanted status.Usage is none h = inl refl
+no_job_status r wanted status.Done is none h = inl (is ∙ ap (λ (a : Answer). a.status) (subst (λ o. IsAnswer o h.0 wanted) none h.2))
+no_job_status r wanted status.Rule is none h = inl (is ∙ ap (λ (a : Answer). a.status) (subst (λ o. IsAnswer o h.0 wanted) none h.2))
+no_job_status r wanted status.Limit is none h = inl (is ∙ ap (λ (a : Answer). a.status) (subst (λ o. IsAnswer o h.0 wanted) none h.2))
 
--- the line that was noted, where the status is known
-noted_as : (r : Run) (wanted : Status) (text : List ℕ) (s : Status) → IsWhole r wanted text → r.status ≡ s → Gains r.note_old r.note_new (note_line r.words s)
-noted_as r wanted text s whole is = subst (λ x. Gains r.note_old r.note_new (note_line r.words x)) (sym whole.status ∙ is) whole.noted
+no_job_ends : (r : Run) (wanted : Answer) (written noted : Bool) → Steps r wanted written noted → wanted.text ≡ []
+    → (wanted.status ≡ status.Usage) ⊎ (wanted.status ≡ status.Memory)
+    → (r.status ≡ status.Usage) ⊎ (r.status ≡ status.Memory) ⊎ (Rose r.note_old.faults r.note_new.faults)
+no_job_ends r wanted written false steps none which = inr (inr steps.note.taken.0)
+no_job_ends r wanted true true steps none (inl is) = inl (steps.status ∙ is)
+no_job_ends r wanted true true steps none (inr is) = inr (inl (steps.status ∙ is))
+no_job_ends r wanted false true steps none which = absurd (no_failed (steps.output.sure (let e : length wanted.text ≡ 0 = ap length none in omega arith)).0)
+  where
+    no_failed : IsTrue false → ⊥
+    no_failed e = cc
 
-caused_as : (r : Run) (wanted : Status) (text : List ℕ) (s : Status) → IsCause r.files_old r.files_new (job r.words) wanted text → IsWhole r wanted text → r.status ≡ s
-    → IsCause r.files_old r.files_new (job r.words) s text
-caused_as r wanted text s cause whole is = subst (λ x. IsCause r.files_old r.files_new (job r.words) x text) (sym whole.status ∙ is) cause
+read_of : (r : Run) (wanted : Answer) → IsReadLine r.files_old r.files_new (job_of r.words) wanted.line → Gains r.note_old r.note_new wanted.line
+    → (read : Call) × (ReadFailed r.files_old r.files_new (job_of r.words) read) × Gains r.note_old r.note_new (read_line read)
+read_of r wanted h noted = (h.0, h.1, subst (λ l. Gains r.note_old r.note_new l) h.2 noted)
 
--- the status that the note tells has its cause
-plain_cause : (r : Run) (s : Status) (text : List ℕ) (held : List (List ℕ × List ℕ)) → (IsFailure r.files_old r.files_new s → ⊥)
-    → IsAnswerTo held (job r.words) s text ⊎ ((text ≡ []) × IsFailure r.files_old r.files_new s) → (t : List ℕ) × IsAnswer held r.words s t
-plain_cause r s text held plain (inl is) = (text, is)
-plain_cause r s text held plain (inr failed) = absurd (plain failed.1)
+write_either : (r : Run) (wanted : Answer) (written noted : Bool) → Steps r wanted written noted → r.status ≡ status.Write
+    → Rose r.note_old.faults r.note_new.faults ⊎ (Rose r.out_old.faults r.out_new.faults × Gains r.note_old r.note_new write_line)
+write_either r wanted true true steps is =
+    absurd (no_write (subst (λ s. IsWantedAs r.files_old r.files_new (job_of r.words) s wanted) (sym steps.status ∙ is) steps.cause))
+  where
+    no_write : IsWantedAs r.files_old r.files_new (job_of r.words) status.Write wanted → ⊥
+    no_write h = h
+write_either r wanted false true steps is = inr (steps.output.taken.0, steps.note.taken)
+write_either r wanted written false steps is = inl steps.note.taken.0
 
-read_rose : (old new : FilesSeen) (o : Option (List ℕ)) (text : List ℕ) → IsCause old new o status.Read text → Rose old.faults new.faults
-read_rose old new None text cause = absurd cause
-read_rose old new (Some name) text cause = cause.1
+quiet_either : (r : Run) (wanted : Answer) → IsEither r.files_old r.files_new (job_of r.words) wanted.status wanted → (wanted.status ≡ status.Done → ⊥) → wanted.text ≡ []
+quiet_either r wanted (inl h) isnt = answer_quiet (job_of r.words) h.0 wanted h.2 isnt
+quiet_either r wanted (inr h) isnt = stop_text r.files_old r.files_new (job_of r.words) wanted.status wanted h
 
-wanted_cause : (r : Run) (wanted : Status) (text : List ℕ) → IsCause r.files_old r.files_new (job r.words) wanted text → HasCause r wanted
-wanted_cause r status.Read text cause = read_rose r.files_old r.files_new (job r.words) text cause
-wanted_cause r status.Write text cause = absurd (no_write r.files_old r.files_new (job r.words) text cause)
-wanted_cause r status.Memory text cause = tt
-wanted_cause r status.Done text cause = told (held_of r.files_old) _ (λ held tells.
-    plain_cause r status.Done text held (λ h. h) (caused r.files_old r.files_new held (job r.words) status.Done text tells cause))
-wanted_cause r status.Rule text cause = told (held_of r.files_old) _ (λ held tells.
-    plain_cause r status.Rule text held (λ h. h) (caused r.files_old r.files_new held (job r.words) status.Rule text tells cause))
-wanted_cause r status.Usage text cause = told (held_of r.files_old) _ (λ held tells.
-    plain_cause r status.Usage text held (λ h. h) (caused r.files_old r.files_new held (job r.words) status.Usage text tells cause))
-wanted_cause r status.Limit text cause = told (held_of r.files_old) _ (λ held tells.
-    plain_cause r status.Limit text held (λ h. h) (caused r.files_old r.files_new held (job r.words) status.Limit text tells cause))
+note_either : (r : Run) (wanted : Answer) (written noted : Bool) → Steps r wanted written noted
+    → (said : Status) × (line : List ℕ) × (noted : Bool) × (HasCause r said line) × (Wrote r.note_old r.note_new line noted) × (r.status ≡ (if noted then said else status.Write))
+note_either r wanted true noted steps = (wanted.status, wanted.line, noted, cause_as r wanted.status wanted refl steps.cause, steps.note, steps.status)
+note_either r wanted false noted steps = (status.Write, write_line, noted, (steps.output.taken.0, refl), steps.note, steps.status)
 
-has_cause : (r : Run) (wanted : Status) (text : List ℕ) (written noted : Bool) → Steps r wanted text written noted → HasCause r (said_of written wanted)
-has_cause r wanted text true noted steps = wanted_cause r wanted text steps.cause
-has_cause r wanted text false noted steps = steps.output.taken.0
-
-keeps_steps : (r : Run) (wanted : Status) (text : List ℕ) (written noted : Bool) → Steps r wanted text written noted → KeepsPromises r
-keeps_steps r wanted text written noted steps = record {
-  answer = told (held_of r.files_old) _ (λ held tells plain.
-      answer_either r wanted text held (whole_of r wanted text written noted steps (plain_isnt_write r.status plain)) plain
-      (caused r.files_old r.files_new held (job r.words) wanted text tells steps.cause));
-  complete = told (held_of r.files_old) _ (λ held tells answer other is none.
-      complete_either r wanted text written noted answer other steps (against r wanted text written noted steps held tells answer other is) none);
-  front = told (held_of r.files_old) _ (λ held tells answer other is.
-      front_either r wanted text answer other (out_front r wanted text written noted steps) (against r wanted text written noted steps held tells answer other is));
-  sure = told (held_of r.files_old) _ (λ held tells answer other is fits.
-      sure_either r wanted text written answer other steps.output (against r wanted text written noted steps held tells answer other is) fits);
+keeps_steps : (r : Run) (wanted : Answer) (written noted : Bool) → Steps r wanted written noted → KeepsPromises r
+keeps_steps r wanted written noted steps = record {
+  answer = λ plain. keeps_answer r wanted (either_in r wanted written noted steps) (whole_of r wanted written noted steps (plain_isnt_write r.status plain)) plain;
+  output = keeps_output r wanted (either_in r wanted written noted steps) (prefix_in r wanted written noted steps);
+  complete = told (held_of r.files_old) _ (λ held tells answer is none.
+      complete_either r wanted answer written noted steps (against r wanted answer held tells (either_in r wanted written noted steps) is) none);
+  prefix = told (held_of r.files_old) _ (λ held tells answer is.
+      prefix_either r wanted answer (prefix_in r wanted written noted steps) (against r wanted answer held tells (either_in r wanted written noted steps) is));
+  sure = told (held_of r.files_old) _ (λ held tells answer is fits.
+      sure_either r wanted answer written steps.output (against r wanted answer held tells (either_in r wanted written noted steps) is) fits);
   usage = λ is.
-      let whole = whole_of r wanted text written noted steps (isnt_write r.status status.Usage is (λ e. cc)) in
-      (usage_of r.files_old r.files_new (job r.words) text (caused_as r wanted text status.Usage steps.cause whole is), noted_as r wanted text status.Usage whole is);
+      let whole = whole_of r wanted written noted steps (isnt_write r.status status.Usage is (λ e. cc)) in
+      let h : IsAnswerIn r wanted = as_wanted r wanted status.Usage steps.cause whole is in
+      let none = usage_of r wanted h (sym whole.status ∙ is) in
+      (none, usage_noted r wanted h none whole.noted);
   no_job = λ none.
-      gained_nothing r.out_old r.out_new text (text_of_no_job r.files_old r.files_new (job r.words) wanted text steps.cause none)
-      (out_front r wanted text written noted steps);
+      let text = no_job_text r wanted none (either_in r wanted written noted steps) in (
+        steps.idle none,
+        gained_nothing r.out_old r.out_new wanted.text text (prefix_in r wanted written noted steps),
+        no_job_ends r wanted written noted steps text (no_job_status r wanted wanted.status refl none steps.cause),
+      );
   read = λ is.
-      let whole = whole_of r wanted text written noted steps (isnt_write r.status status.Read is (λ e. cc)) in
-      read_of r (job r.words) text (caused_as r wanted text status.Read steps.cause whole is) (noted_as r wanted text status.Read whole is);
-  write = λ is. write_either r wanted text written noted steps is;
+      let whole = whole_of r wanted written noted steps (isnt_write r.status status.Read is (λ e. cc)) in
+      read_of r wanted (as_wanted r wanted status.Read steps.cause whole is).1 whole.noted;
+  write = λ is. write_either r wanted written noted steps is;
   memory = λ is.
-      let whole = whole_of r wanted text written noted steps (isnt_write r.status status.Memory is (λ e. cc)) in
-      noted_as r wanted text status.Memory whole is;
-  quiet = λ isnt_done isnt.
-      let whole = whole_of r wanted text written noted steps isnt in
-      gained_nothing r.out_old r.out_new text
-      (quiet_text r.files_old r.files_new (job r.words) wanted text steps.cause (λ e. isnt_done (whole.status ∙ e)))
-      (out_front r wanted text written noted steps);
-  note = (said_of written wanted, noted, has_cause r wanted text written noted steps, steps.note, steps.status);
+      let whole = whole_of r wanted written noted steps (isnt_write r.status status.Memory is (λ e. cc)) in
+      subst (λ l. Gains r.note_old r.note_new l) (as_wanted r wanted status.Memory steps.cause whole is).1 whole.noted;
+  quiet = λ early isnt_done isnt.
+      let whole = whole_of r wanted written noted steps isnt in
+      gained_nothing r.out_old r.out_new wanted.text
+      (quiet_either r wanted (either_in r wanted written noted steps) (λ e. isnt_done (whole.status ∙ e)))
+      (prefix_in r wanted written noted steps);
+  note = note_either r wanted written noted steps;
   kept = (steps.files, steps.output.count, steps.note.count);
 }
 
 -- a run keeps its promises
 pub keeps : (r : Run) → Ran r → KeepsPromises r
-keeps r ran = keeps_steps r ran.wanted ran.text ran.written ran.noted (steps_of r ran)
+keeps r ran = keeps_steps r ran.wanted ran.written ran.noted (steps_of r ran)
 
 -- ---- over files that don't fail, and sinks that are sure
 
@@ -326,35 +284,31 @@ of_told : (o : Option (List (List ℕ × List ℕ))) (P : List (List ℕ × List
 of_told None P held tells h = cc
 of_told (Some h') P held tells h = subst P (let e : h' ≡ held = cc in e) h
 
-plain_fits : (r : Run) (held : List (List ℕ × List ℕ)) → held_of r.files_old ≡ Some held → (answer : Status) (text : List ℕ) → IsAnswer held r.words answer text
-    → length (note_line r.words answer) ≤ r.note_old.room → (said : Status)
-    → IfSome (held_of r.files_old) (λ h. (t : List ℕ) × IsAnswer h r.words said t) → length (note_line r.words said) ≤ r.note_old.room
-plain_fits r held tells answer text is line said cause =
-    let P : List (List ℕ × List ℕ) → Type 0 = λ h. (t : List ℕ) × IsAnswer h r.words said t in
-    let found = of_told (held_of r.files_old) P held tells cause in
-    subst (λ s. length (note_line r.words s) ≤ r.note_old.room) (one_answer held r.words answer text said found.0 is found.1).0 line
-
 -- the line that the note was given is one that it had room for
-line_fits : (r : Run) (held : List (List ℕ × List ℕ)) → held_of r.files_old ≡ Some held → (answer : Status) (text : List ℕ) → IsAnswer held r.words answer text
+line_fits : (r : Run) (held : List (List ℕ × List ℕ)) → held_of r.files_old ≡ Some held → (answer : Answer) → IsAnswerIn r answer
     → (Rose r.files_old.faults r.files_new.faults → ⊥) → (Rose r.out_old.faults r.out_new.faults → ⊥)
-    → length (note_line r.words answer) ≤ r.note_old.room → length (codes "edt: memory\n") ≤ r.note_old.room
-    → (said : Status) → HasCause r said → length (note_line r.words said) ≤ r.note_old.room
-line_fits r held tells answer text is files out line memory status.Read cause = absurd (files cause)
-line_fits r held tells answer text is files out line memory status.Write cause = absurd (out cause)
-line_fits r held tells answer text is files out line memory status.Memory cause = memory
-line_fits r held tells answer text is files out line memory status.Done cause = plain_fits r held tells answer text is line status.Done cause
-line_fits r held tells answer text is files out line memory status.Rule cause = plain_fits r held tells answer text is line status.Rule cause
-line_fits r held tells answer text is files out line memory status.Usage cause = plain_fits r held tells answer text is line status.Usage cause
-line_fits r held tells answer text is files out line memory status.Limit cause = plain_fits r held tells answer text is line status.Limit cause
+    → length answer.line ≤ r.note_old.room → length memory_line ≤ r.note_old.room
+    → (said : Status) (line : List ℕ) → HasCause r said line → length line ≤ r.note_old.room
+line_fits r held tells answer is files out room memory status.Read line cause = absurd (files cause.1.rose)
+line_fits r held tells answer is files out room memory status.Write line cause = absurd (out cause.0)
+line_fits r held tells answer is files out room memory status.Memory line cause = subst (λ l. length l ≤ r.note_old.room) (sym cause) memory
+line_fits r held tells answer is files out room memory status.Done line cause =
+    subst (λ l. length l ≤ r.note_old.room) (ap (λ (a : Answer). a.line) (one_from r.files_old held tells (job_of r.words) answer cause.0 is cause.1) ∙ sym cause.3) room
+line_fits r held tells answer is files out room memory status.Rule line cause =
+    subst (λ l. length l ≤ r.note_old.room) (ap (λ (a : Answer). a.line) (one_from r.files_old held tells (job_of r.words) answer cause.0 is cause.1) ∙ sym cause.3) room
+line_fits r held tells answer is files out room memory status.Usage line cause =
+    subst (λ l. length l ≤ r.note_old.room) (ap (λ (a : Answer). a.line) (one_from r.files_old held tells (job_of r.words) answer cause.0 is cause.1) ∙ sym cause.3) room
+line_fits r held tells answer is files out room memory status.Limit line cause =
+    subst (λ l. length l ≤ r.note_old.room) (ap (λ (a : Answer). a.line) (one_from r.files_old held tells (job_of r.words) answer cause.0 is cause.1) ∙ sym cause.3) room
 
 pub ends_with_answer : EndsWithAnswer
-ends_with_answer r keeps held tells answer text is files room out_low line memory note_low =
-    let P : List (List ℕ × List ℕ) → Type 0 = λ h. (a : Status) (t : List ℕ) → IsAnswer h r.words a t → length t ≤ r.out_old.room → IsSure r.out_old r.out_new (length t) in
-    let Q : List (List ℕ × List ℕ) → Type 0 = λ h. (a : Status) (t : List ℕ) → IsAnswer h r.words a t → NothingRose r → (r.status ≡ a) ⊎ (r.status ≡ status.Memory) in
-    let out : Rose r.out_old.faults r.out_new.faults → ⊥ = sure_stays r.out_old r.out_new (length text) out_low
-    (of_told (held_of r.files_old) P held tells keeps.sure answer text is room) in
-    let fits : length (note_line r.words keeps.note.0) ≤ r.note_old.room =
-    line_fits r held tells answer text is files out line memory keeps.note.0 keeps.note.2 in
-    let note : Rose r.note_old.faults r.note_new.faults → ⊥ = sure_stays r.note_old r.note_new (length (note_line r.words keeps.note.0)) note_low
-    (keeps.note.3.sure fits).1 in
-    of_told (held_of r.files_old) Q held tells keeps.complete answer text is (files, out, note)
+ends_with_answer r keeps held tells answer is files room out_low line memory note_low =
+    let P : List (List ℕ × List ℕ) → Type 0 = λ h. (a : Answer) → IsAnswerIn r a → length a.text ≤ r.out_old.room → IsSure r.out_old r.out_new (length a.text) in
+    let Q : List (List ℕ × List ℕ) → Type 0 = λ h. (a : Answer) → IsAnswerIn r a → NothingRose r → (r.status ≡ a.status) ⊎ (r.status ≡ status.Memory) in
+    let out : Rose r.out_old.faults r.out_new.faults → ⊥ = sure_stays r.out_old r.out_new (length answer.text) out_low
+    (of_told (held_of r.files_old) P held tells keeps.sure answer is room) in
+    let fits : length keeps.note.1 ≤ r.note_old.room =
+    line_fits r held tells answer is files out line memory keeps.note.0 keeps.note.1 keeps.note.3 in
+    let note : Rose r.note_old.faults r.note_new.faults → ⊥ = sure_stays r.note_old r.note_new (length keeps.note.1) note_low
+    (keeps.note.4.sure fits).1 in
+    of_told (held_of r.files_old) Q held tells keeps.complete answer is (record { files = files; out = out; note = note })

@@ -1,85 +1,84 @@
 -- What a run decided and what became of writing it make the run.
-use Rattle.std.proofs.Common.{◌≡◌, ◌≤◌, ◌++◌, ◌∙◌, ℕ, List, [], Some, None, IfSome, length, refl, sym, ap, subst, true, codes, Bool, if◌then◌else◌}
-use Rattle.std.specs.Option.{unwrap_or}
-use Rattle.edt_base.specs.declared.fault.Rule.TheVariants as rule
-use Rattle.edt_base.specs.declared.fault.Place.TheVariants as place
-use Rattle.edt_base.specs.Outside.{Wrote, held_of, content}
+use Rattle.std.proofs.Common.{◌≡◌, ◌∙◌, ℕ, List, [], Option, Some, None, Result, Ok, Err, IfOk, IsTrue, MatchOption, refl, sym, subst, true}
+use Rattle.edt_base.specs.declared.outside.Call.TheVariants as call
+use Rattle.edt_base.specs.Outside.{FilesSeen, Wrote, held_of}
 use Rattle.edt_base.proofs.WriteLaws.{wrote_nothing}
+use Rattle.edt_run.specs.declared.sources.Stop.{Stop}
+use Rattle.edt_run.specs.declared.sources.Stop.TheVariants as stop
 use Rattle.edt_run.specs.declared.top.Status.{Status}
 use Rattle.edt_run.specs.declared.top.Status.TheVariants as status
-use Rattle.edt_run.specs.Forest.{Forest}
-use Rattle.edt_run.specs.Small.{IsSmall}
-use Rattle.edt_run.specs.Header.{header}
-use Rattle.edt_run.specs.Decision.{IsRefused, IsSaid}
-use Rattle.edt_run.specs.Promises.{Run, Ran, job, source_name, source_limit, note_line, fault_line, IsCause, IsCauseOver, KeepsFiles}
+use Rattle.edt_run.specs.Answer.{Answer, refusal, refused, usage_line, memory_line, too_long}
+use Rattle.edt_run.specs.Job.{JobData, job_of}
+use Rattle.edt_run.specs.Promises.{Run, IsAnswerOf, IsAnswerFrom, KeepsFiles, is_plain}
+use Rattle.edt_run.specs.Steps.{Ran, IsSaid, IsWanted, IsWantedAs, AreRead, IsReadStop, IsRefusedBy}
+use Rattle.edt_run.proofs.AnswerLaws.{answer_plain}
+
+pub map_ok : {X E : Type 0} (r : Result X E) (P Q : X → Type 0) → ((x : X) → P x → Q x) → IfOk r P → IfOk r Q
+map_ok (Ok x) P Q f h = f x h
+map_ok (Err e) P Q f h = tt
+
+-- ---- what is wanted
+
+as_answer : (old new : FilesSeen) (job : Option JobData) (said : Status) (w : Answer) → IsTrue (is_plain said) → IsAnswerFrom old job w → IsWantedAs old new job said w
+as_answer old new job status.Read w plain h = cc
+as_answer old new job status.Write w plain h = cc
+as_answer old new job status.Memory w plain h = cc
+as_answer old new job status.Done w plain h = h
+as_answer old new job status.Rule w plain h = h
+as_answer old new job status.Usage w plain h = h
+as_answer old new job status.Limit w plain h = h
+
+answered : (old new : FilesSeen) (job : Option JobData) (w : Answer) → IsAnswerFrom old job w → IsWanted old new job w
+answered old new job w h = as_answer old new job w.status w (answer_plain job h.0 w h.2) h
+
+-- over sources that were read
+pub wanted_over : (old new : FilesSeen) (job : JobData) (sources : List (List ℕ)) (w : Answer) → AreRead (held_of old) job.names sources
+    → IsAnswerOf job.cmd job.names sources w → IsWanted old new (Some job) w
+wanted_over old new job sources w read h =
+    let P : Option (List ℕ) → Type 0 = λ o. MatchOption o (IsAnswerOf job.cmd job.names sources w) (λ name. w ≡ refused (too_long name)) in
+    answered old new (Some job) w (record { sources = sources }, (read.as_many, read.told), subst P (sym read.within) h)
+
+-- over sources that couldn't be read, or have too many bytes
+pub wanted_stopped : (old new : FilesSeen) (job : JobData) (why : Stop) (w : Answer) → IsReadStop old new job.names why → IsRefusedBy why w → IsWanted old new (Some job) w
+wanted_stopped old new job (stop.Failed name) w h is =
+    subst (λ a. IsWanted old new (Some job) a) (sym is) (refl, (call.Read name, record { is_of_job = h.0; rose = h.1; last = h.2 }, refl))
+wanted_stopped old new job (stop.TooLong name) w h is =
+    let P : Option (List ℕ) → Type 0 = λ o. MatchOption o (IsAnswerOf job.cmd job.names h.sources w) (λ n. w ≡ refused (too_long n)) in
+    answered old new (Some job) w (record { sources = h.sources }, (h.as_many, h.told), subst P (sym h.above) is)
+wanted_stopped old new job (stop.Memory e) w h is = absurd is
+
+-- words that are no job
+wanted_usage : (old new : FilesSeen) (job : Option JobData) → job ≡ None → IsWanted old new job (refusal status.Usage usage_line)
+wanted_usage old new job none = subst (λ o. IsAnswerFrom old o (refusal status.Usage usage_line)) (sym none) (record { sources = [] }, refl, refl)
+
+-- ---- the run
 
 kept_out : (r : Run) → r.out_new ≡ r.out_old → Wrote r.out_old r.out_new [] true
 kept_out r same = subst (λ s. Wrote r.out_old s [] true) (sym same) (wrote_nothing r.out_old)
 
--- a refusal was wanted, with a cause and the line of its status
-ran_refusal : (r : Run) (refused : Status) (line : List ℕ) → IsCause r.files_old r.files_new (job r.words) refused [] → line ≡ note_line r.words refused
-    → KeepsFiles r.files_old r.files_new → r.out_new ≡ r.out_old → IsSaid r.note_old r.note_new line refused r.status → Ran r
-ran_refusal r refused line cause is kept same said = record {
-  wanted = refused;
-  text = [];
+-- nothing was to be written, and the note got the line
+pub ran_refusal : (r : Run) (said : Status) (line : List ℕ) → IsWanted r.files_old r.files_new (job_of r.words) (refusal said line)
+    → (job_of r.words ≡ None → r.files_new ≡ r.files_old) → KeepsFiles r.files_old r.files_new → r.out_new ≡ r.out_old
+    → IsSaid r.note_old r.note_new line said r.status → Ran r
+ran_refusal r said line cause idle kept same noted = record {
+  wanted = refusal said line;
   written = true;
-  noted = said.noted;
+  noted = noted.noted;
   files = kept;
+  idle = idle;
   cause = cause;
   output = kept_out r same;
-  note = subst (λ l. Wrote r.note_old r.note_new l said.noted) is said.note;
-  status = said.status;
+  note = noted.note;
+  status = noted.status;
 }
 
-cause_named : (r : Run) (name : List ℕ) (wanted : Status) (text : List ℕ) → job r.words ≡ Some name
-    → IsCauseOver r.files_old r.files_new name wanted text → IsCause r.files_old r.files_new (job r.words) wanted text
-cause_named r name wanted text named cause = subst (λ o. IsCause r.files_old r.files_new o wanted text) (sym named) cause
+pub ran_usage : (r : Run) → job_of r.words ≡ None → r.files_new ≡ r.files_old → KeepsFiles r.files_old r.files_new → r.out_new ≡ r.out_old
+    → IsSaid r.note_old r.note_new usage_line status.Usage r.status → Ran r
+ran_usage r none idle kept same noted = ran_refusal r status.Usage usage_line (wanted_usage r.files_old r.files_new (job_of r.words) none) (λ _. idle) kept same noted
 
--- the words were no job
-pub ran_usage : (r : Run) → job r.words ≡ None → KeepsFiles r.files_old r.files_new → r.out_new ≡ r.out_old → IsSaid r.note_old r.note_new (codes "edt: usage\n") status.Usage r.status → Ran r
-ran_usage r none kept same said =
-    ran_refusal r status.Usage (codes "edt: usage\n") (subst (λ o. IsCause r.files_old r.files_new o status.Usage []) (sym none) refl) refl kept same said
+pub ran_memory : (r : Run) → (job_of r.words ≡ None → r.files_new ≡ r.files_old) → KeepsFiles r.files_old r.files_new → r.out_new ≡ r.out_old
+    → IsSaid r.note_old r.note_new memory_line status.Memory r.status → Ran r
+ran_memory r idle kept same noted = ran_refusal r status.Memory memory_line (refl, refl) idle kept same noted
 
--- memory was wanted
-pub ran_memory : (r : Run) (name : List ℕ) → job r.words ≡ Some name → KeepsFiles r.files_old r.files_new → r.out_new ≡ r.out_old
-    → IsSaid r.note_old r.note_new (codes "edt: memory\n") status.Memory r.status → Ran r
-ran_memory r name named kept same said =
-    ran_refusal r status.Memory (codes "edt: memory\n") (cause_named r name status.Memory [] named refl) refl kept same said
-
-source_named : (words : List (List ℕ)) (name : List ℕ) → job words ≡ Some name → name ≡ source_name words
-source_named words name named = sym (ap (λ o. unwrap_or o []) named)
-
--- the source was refused
-pub ran_refused : (r : Run) (name : List ℕ) (refused : Status) (line : List ℕ) → job r.words ≡ Some name
-    → IsRefused r.files_old r.files_new name refused line → KeepsFiles r.files_old r.files_new → r.out_new ≡ r.out_old → IsSaid r.note_old r.note_new line refused r.status → Ran r
-ran_refused r name status.Read line named why kept same said =
-    ran_refusal r status.Read line (cause_named r name status.Read [] named (refl, why.1, why.2))
-    (why.0 ∙ ap (λ n. codes "edt: read " ++ (n ++ codes "\n")) (source_named r.words name named)) kept same said
-ran_refused r name status.Limit line named why kept same said =
-    ran_refusal r status.Limit line (cause_named r name status.Limit [] named (refl, why.1))
-    (why.0 ∙ ap (λ n. fault_line rule.L1 (place.File n)) (source_named r.words name named)) kept same said
-ran_refused r name status.Rule line named why kept same said =
-    ran_refusal r status.Rule line (cause_named r name status.Rule [] named (refl, why.1))
-    (why.0 ∙ ap (λ n. fault_line rule.S6 (place.Byte n 0)) (source_named r.words name named)) kept same said
-ran_refused r name status.Done line named why kept same said = absurd why
-ran_refused r name status.Usage line named why kept same said = absurd why
-ran_refused r name status.Write line named why kept same said = absurd why
-ran_refused r name status.Memory line named why kept same said = absurd why
-
--- the header of the source's nodes was wanted
-pub ran_header : (r : Run) (name : List ℕ) (nodes : Forest) → job r.words ≡ Some name
-    → IfSome (held_of r.files_old) (λ held. (length (content held name) ≤ source_limit) × IsSmall (content held name) nodes)
-    → KeepsFiles r.files_old r.files_new → (written : Bool) → Wrote r.out_old r.out_new (header nodes) written
-    → IsSaid r.note_old r.note_new (note_line r.words (if written then status.Done else status.Write)) (if written then status.Done else status.Write) r.status
-    → Ran r
-ran_header r name nodes named small kept written wrote said = record {
-  wanted = status.Done;
-  text = header nodes;
-  written = written;
-  noted = said.noted;
-  files = kept;
-  cause = cause_named r name status.Done (header nodes) named (nodes, refl, small);
-  output = wrote;
-  note = said.note;
-  status = said.status;
-}
+pub is_job : (words : List (List ℕ)) (job : JobData) {T : Type 0} → Some job ≡ job_of words → job_of words ≡ None → T
+is_job words job named none = let e : Some job ≡ None = named ∙ none in cc

@@ -44,7 +44,8 @@ unfoldable pub node_lines : List ℕ → List ℕ → List ℕ → ℕ → List 
 node_lines path id parent place name children =
     name_lines id path name ++ (parent_lines id parent place ++ end_lines id children)
 
--- the lines of siblings, from the path and the id of their parent and the place of the first, each before what is below it
+-- the lines of siblings, from the path and the id of their parent and the place of the first, each before what is below
+-- it
 abbrev pub lines_below : List ℕ → List ℕ → ℕ → Forest → List ℕ
 lines_below path parent place none = []
 lines_below path parent place (tree name below later) =

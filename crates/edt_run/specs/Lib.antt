@@ -1,6 +1,7 @@
-pub mod Decision
+pub mod Answer
 pub mod Forest
 pub mod Header
+pub mod Job
 pub mod Nodes
 pub mod Piece
 pub mod Promises
@@ -8,5 +9,7 @@ pub mod Put
 pub mod Reader
 pub mod Reading
 pub mod Small
+pub mod SmallAnswer
+pub mod Steps
 pub mod Tokens
 pub mod Trail

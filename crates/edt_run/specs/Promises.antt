@@ -1,87 +1,48 @@
 -- What a run promises: the cause of each status, what the output gained, and what the note says.
-use Rattle.std.specs.Prelude.{◌≡◌, ◌-◌, ◌^◌, ◌<◌, ◌≤◌, ◌++◌, ◌⊎◌, ◌&&◌, ◌||◌, ℕ, Bool, true, false, IsTrue, List, [], ◌∷◌, Option, Some, None, IsSomeAnd, IfSome, codes, length, not, nat_eq, unwrap_or, if◌then◌else◌}
-use Rattle.std.specs.List.{starts_with}
-use Rattle.std.specs.Str.{bytes_eq}
-use Rattle.edt_base.specs.declared.fault.Rule.TheVariants as rule
-use Rattle.edt_base.specs.declared.fault.Place.TheVariants as place
-use Rattle.edt_base.specs.declared.fault.Place.{Place}
-use Rattle.edt_base.specs.declared.fault.Rule.{Rule}
+use Rattle.std.specs.Prelude.{◌≡◌, ◌-◌, ◌^◌, ◌<◌, ◌≤◌, ◌⊎◌, ℕ, Bool, true, false, IsTrue, List, [], ◌∷◌, Option, Some, None, MatchOption, IfSome, Contains, length, if◌then◌else◌}
+use Rattle.edt_base.specs.declared.outside.Call.{Call}
 use Rattle.edt_base.specs.declared.outside.Call.TheVariants as call
-use Rattle.edt_base.specs.FaultText.{fault_text}
-use Rattle.edt_base.specs.Outside.{FilesSeen, SinkSeen, Rose, Gains, GainsPrefix, IsSure, Wrote, held_of, content}
+use Rattle.edt_base.specs.Outside.{FilesSeen, SinkSeen, Rose, Gains, GainsPrefix, IsSure, Wrote, held_of}
+use Rattle.edt_run.specs.declared.asked.Cmd.{Cmd}
+use Rattle.edt_run.specs.declared.asked.Cmd.TheVariants as cmd
 use Rattle.edt_run.specs.declared.top.Status.{Status}
 use Rattle.edt_run.specs.declared.top.Status.TheVariants as status
-use Rattle.edt_run.specs.Forest.{Forest}
-use Rattle.edt_run.specs.Small.{IsSmall}
-use Rattle.edt_run.specs.Header.{header}
+use Rattle.edt_run.specs.Answer.{Answer, Given, IsGiven, refusal, refused, usage_line, write_line, memory_line, read_line, source_limit, first_above, too_long}
+use Rattle.edt_run.specs.Job.{JobData, job_of}
+use Rattle.edt_run.specs.SmallAnswer.{IsSmallAnswer}
 
--- a word that can name a source: standard input, or a word that begins with no dash
-abbrev pub is_source_name : List ℕ → Bool
-is_source_name name = bytes_eq name (codes "-") || not (starts_with nat_eq name (codes "-"))
+-- ---- the answer to a job
 
--- the source whose header the words ask for; every other word list is no job
-abbrev pub job : List (List ℕ) → Option (List ℕ)
-job (command ∷ name ∷ []) = if bytes_eq command (codes "gen") && is_source_name name then Some name else None
-job _ = None
+-- by command: what it answers over its sources, where these are within the limit
+abbrev pub IsAnswerOf : Cmd → List (List ℕ) → List (List ℕ) → Answer → Type 0
+IsAnswerOf cmd.Gen (name ∷ names) (source ∷ sources) answer = IsSmallAnswer name source answer
+IsAnswerOf _ names sources answer = ⊥
 
--- the name of the job's source
-abbrev pub source_name : List (List ℕ) → List ℕ
-source_name words = unwrap_or (job words) []
+-- the limit on sources is met before every rule
+abbrev pub IsAnswerTo : JobData → Given → Answer → Type 0
+IsAnswerTo job given answer = MatchOption (first_above source_limit job.names given.sources)
+    (IsAnswerOf job.cmd job.names given.sources answer) (λ name. answer ≡ refused (too_long name))
 
--- how many bytes a source has at most
-abbrev pub source_limit : ℕ
-source_limit = 2097152
+-- words that are no job are answered by status 2
+abbrev pub IsAnswer : Option JobData → Given → Answer → Type 0
+IsAnswer None given answer = answer ≡ refusal status.Usage usage_line
+IsAnswer (Some job) given answer = IsAnswerTo job given answer
 
--- the line of a broken rule
-abbrev pub fault_line : Rule → Place → List ℕ
-fault_line broken at = codes "edt: " ++ (fault_text (record { rule = broken; place = at }) ++ codes "\n")
+-- the calls of the outside by which a job reads
+abbrev pub IsReadOf : Option JobData → Call → Type 0
+IsReadOf None read = ⊥
+IsReadOf (Some job) (call.Read name) = Contains job.names name
+IsReadOf (Some job) (call.List name) = ⊥
 
--- the line that the note gets for a status
-abbrev pub note_line : List (List ℕ) → Status → List ℕ
-note_line words status.Done = []
-note_line words status.Rule = fault_line rule.S6 (place.Byte (source_name words) 0)
-note_line words status.Usage = codes "edt: usage\n"
-note_line words status.Read = codes "edt: read " ++ (source_name words ++ codes "\n")
-note_line words status.Write = codes "edt: write\n"
-note_line words status.Memory = codes "edt: memory\n"
-note_line words status.Limit = fault_line rule.L1 (place.File (source_name words))
+-- a command may write lines before it refuses a later one
+abbrev pub writes_early : Option JobData → Bool
+writes_early None = false
+writes_early (Some job) = of_command job.cmd
+  where
+    of_command : Cmd → Bool
+    of_command cmd.Gen = false
 
--- what the job answers over a source where nothing fails and memory is found: status 6 above the limit,
--- else 0 and the header where the source is small, else 1
-abbrev pub IsAnswerOver : List ℕ → Status → List ℕ → Type 0
-IsAnswerOver source status.Limit text = (text ≡ []) × (source_limit < length source)
-IsAnswerOver source status.Done text = (length source ≤ source_limit) × ((nodes : Forest) × IsSmall source nodes × (text ≡ header nodes))
-IsAnswerOver source status.Rule text = (text ≡ []) × (length source ≤ source_limit) × ((nodes : Forest) → IsSmall source nodes → ⊥)
-IsAnswerOver source _ text = ⊥
-
--- no job is answered by status 2
-abbrev pub IsAnswerTo : List (List ℕ × List ℕ) → Option (List ℕ) → Status → List ℕ → Type 0
-IsAnswerTo held None status.Usage text = text ≡ []
-IsAnswerTo held None _ text = ⊥
-IsAnswerTo held (Some name) answer text = IsAnswerOver (content held name) answer text
-
--- the status and the output of a run over these files in which nothing fails and memory is found
-abbrev pub IsAnswer : List (List ℕ × List ℕ) → List (List ℕ) → Status → List ℕ → Type 0
-IsAnswer held words answer text = IsAnswerTo held (job words) answer text
-
--- why a run that read the source of a name wants a status and a text for the output, before it writes;
--- what was read is known where the files tell it
-abbrev pub IsCauseOver : FilesSeen → FilesSeen → List ℕ → Status → List ℕ → Type 0
-IsCauseOver old new name status.Done text = (nodes : Forest) × (text ≡ header nodes)
-    × IfSome (held_of old) (λ held. (length (content held name) ≤ source_limit) × IsSmall (content held name) nodes)
-IsCauseOver old new name status.Rule text = (text ≡ [])
-    × IfSome (held_of old) (λ held. (length (content held name) ≤ source_limit) × ((nodes : Forest) → IsSmall (content held name) nodes → ⊥))
-IsCauseOver old new name status.Read text = (text ≡ [])
-    × Rose old.faults new.faults × IfSome new.told (λ t. t.last ≡ Some (call.Read name))
-IsCauseOver old new name status.Memory text = text ≡ []
-IsCauseOver old new name status.Limit text = (text ≡ [])
-    × IfSome (held_of old) (λ held. source_limit < length (content held name))
-IsCauseOver old new name _ text = ⊥
-
-abbrev pub IsCause : FilesSeen → FilesSeen → Option (List ℕ) → Status → List ℕ → Type 0
-IsCause old new None status.Usage text = text ≡ []
-IsCause old new None _ text = ⊥
-IsCause old new (Some name) wanted text = IsCauseOver old new name wanted text
+-- ---- a run
 
 -- one run: what the outside was before and after it, and its status
 pub record Run : Type 0 where
@@ -94,84 +55,98 @@ pub record Run : Type 0 where
   pub note_new : SinkSeen
   pub status : Status
 
--- the map of the files is the same, and their count of faults didn't fall
-abbrev pub KeepsFiles : FilesSeen → FilesSeen → Type 0
-KeepsFiles old new = (held_of new ≡ held_of old) × (old.faults ≤ new.faults)
+-- the answer to a job over what its reads gave
+abbrev pub IsAnswerFrom : FilesSeen → Option JobData → Answer → Type 0
+IsAnswerFrom files job answer = (given : Given) × (IsGiven (held_of files) job given) × (IsAnswer job given answer)
 
--- the steps of a run: what it wants, whether the output took it, and whether the note took its line
-pub record Ran (r : Run) : Type 0 where
-  pub wanted : Status
-  pub text : List ℕ
-  pub written : Bool
-  pub noted : Bool
-  pub files : KeepsFiles r.files_old r.files_new
-  pub cause : IsCause r.files_old r.files_new (job r.words) wanted text
-  pub output : Wrote r.out_old r.out_new text written
-  pub note : Wrote r.note_old r.note_new (note_line r.words (if written then wanted else status.Write)) noted
-  pub status : r.status ≡ (if noted then (if written then wanted else status.Write) else status.Write)
+-- a call of the files failed: it is one of the job's, the count rose, and where it is told, it is the
+-- last call that failed
+pub record ReadFailed (old new : FilesSeen) (job : Option JobData) (read : Call) : Type 0 where
+  pub is_of_job : IsReadOf job read
+  pub rose : Rose old.faults new.faults
+  pub last : IfSome new.told (λ t. t.last ≡ Some read)
+
+-- the line of a call that failed
+abbrev pub IsReadLine : FilesSeen → FilesSeen → Option JobData → List ℕ → Type 0
+IsReadLine old new job line = (read : Call) × (ReadFailed old new job read) × (line ≡ read_line read)
+
+-- the answer of a run: that to its words
+abbrev pub IsAnswerIn : Run → Answer → Type 0
+IsAnswerIn r answer = IsAnswerFrom r.files_old (job_of r.words) answer
+
+-- what a status and a line rest on: a call that failed, want of memory, or the run's answer
+abbrev pub HasCause : Run → Status → List ℕ → Type 0
+HasCause r status.Read line = IsReadLine r.files_old r.files_new (job_of r.words) line
+HasCause r status.Write line = Rose r.out_old.faults r.out_new.faults × (line ≡ write_line)
+HasCause r status.Memory line = line ≡ memory_line
+HasCause r said line = (answer : Answer) × (IsAnswerIn r answer) × (said ≡ answer.status) × (line ≡ answer.line)
 
 -- status 0, 1, 2 and 6 tell of the words and the files; 3, 4 and 5 of what failed
 abbrev pub is_plain : Status → Bool
-is_plain status.Done = true
-is_plain status.Rule = true
-is_plain status.Usage = true
 is_plain status.Read = false
 is_plain status.Write = false
 is_plain status.Memory = false
-is_plain status.Limit = true
+is_plain _ = true
 
 -- nothing of the outside failed in this run
-abbrev pub NothingRose : Run → Type 0
-NothingRose r = (Rose r.files_old.faults r.files_new.faults → ⊥) × (Rose r.out_old.faults r.out_new.faults → ⊥)
-    × (Rose r.note_old.faults r.note_new.faults → ⊥)
+pub record NothingRose (r : Run) : Type 0 where
+  pub files : Rose r.files_old.faults r.files_new.faults → ⊥
+  pub out : Rose r.out_old.faults r.out_new.faults → ⊥
+  pub note : Rose r.note_old.faults r.note_new.faults → ⊥
 
--- the status that the note tells has its cause: something failed, memory was wanted, or it is the answer's
-abbrev pub HasCause : Run → Status → Type 0
-HasCause r status.Read = Rose r.files_old.faults r.files_new.faults
-HasCause r status.Write = Rose r.out_old.faults r.out_new.faults
-HasCause r status.Memory = Unit {0}
-HasCause r said = IfSome (held_of r.files_old) (λ held. (text : List ℕ) × IsAnswer held r.words said text)
+-- the files hold what they held, and their count of faults didn't fall
+abbrev pub KeepsFiles : FilesSeen → FilesSeen → Type 0
+KeepsFiles old new = (held_of new ≡ held_of old) × (old.faults ≤ new.faults)
+
+-- a fact of the answer of a run whose files tell what they hold
+abbrev pub OfAnswer : Run → (Answer → Type 0) → Type 0
+OfAnswer r fact = IfSome (held_of r.files_old) (λ held. (answer : Answer) → IsAnswerIn r answer → fact answer)
 
 -- what a run promises
 pub record KeepsPromises (r : Run) : Type 0 where
-  -- where the files tell what they hold: status 0, 1, 2 or 6 is that of the answer, the output gained
-  -- exactly the answer's text, and the note exactly the line of the status
-  pub answer : IfSome (held_of r.files_old) (λ held. IsTrue (is_plain r.status) → (text : List ℕ) × IsAnswer held r.words r.status text
-      × Gains r.out_old r.out_new text × Gains r.note_old r.note_new (note_line r.words r.status))
-  -- where besides nothing failed, the run ends with its answer or with want of memory
-  pub complete : IfSome (held_of r.files_old) (λ held. (answer : Status) (text : List ℕ) → IsAnswer held r.words answer text
-      → NothingRose r → (r.status ≡ answer) ⊎ (r.status ≡ status.Memory))
-  -- whatever the status: the output gained a front of the answer's text
-  pub front : IfSome (held_of r.files_old) (λ held. (answer : Status) (text : List ℕ) → IsAnswer held r.words answer text
-      → GainsPrefix r.out_old r.out_new text)
-  -- an output that is sure of room for the answer's text doesn't fail
-  pub sure : IfSome (held_of r.files_old) (λ held. (answer : Status) (text : List ℕ) → IsAnswer held r.words answer text
-      → length text ≤ r.out_old.room → IsSure r.out_old r.out_new (length text))
-  -- status 2 comes only on words that are no job, and its line was gained; on such words the output is unchanged
-  pub usage : r.status ≡ status.Usage → (job r.words ≡ None) × Gains r.note_old r.note_new (codes "edt: usage\n")
-  pub no_job : job r.words ≡ None → Gains r.out_old r.out_new []
-  -- status 3 comes only where the count of the files rose, and the last call that failed read the job's name
-  pub read : r.status ≡ status.Read → IsSomeAnd (job r.words) (λ name. Rose r.files_old.faults r.files_new.faults
-      × IfSome r.files_new.told (λ t. t.last ≡ Some (call.Read name)) × Gains r.note_old r.note_new (codes "edt: read " ++ (name ++ codes "\n")))
+  -- status 0, 1, 2 or 6 is that of the answer, the output gained exactly the answer's text, and the note
+  -- exactly its line
+  pub answer : IsTrue (is_plain r.status) → (answer : Answer) × (IsAnswerIn r answer) × (r.status ≡ answer.status)
+      × (Gains r.out_old r.out_new answer.text) × (Gains r.note_old r.note_new answer.line)
+  -- whatever the status: the output is as it was, or gained a prefix of an answer's text
+  pub output : Gains r.out_old r.out_new [] ⊎ ((answer : Answer) × (IsAnswerIn r answer)
+      × GainsPrefix r.out_old r.out_new answer.text)
+  -- where the files tell what they hold and nothing failed, the run ends with its answer or with want of memory
+  pub complete : OfAnswer r (λ answer. NothingRose r → (r.status ≡ answer.status) ⊎ (r.status ≡ status.Memory))
+  -- where the files tell: whatever the status, the output gained a prefix of the answer's text
+  pub prefix : OfAnswer r (λ answer. GainsPrefix r.out_old r.out_new answer.text)
+  -- where the files tell: an output that is sure of room for the answer's text doesn't fail
+  pub sure : OfAnswer r
+      (λ answer. length answer.text ≤ r.out_old.room → IsSure r.out_old r.out_new (length answer.text))
+  -- status 2 comes only on words that are no job, and its line was gained
+  pub usage : r.status ≡ status.Usage → (job_of r.words ≡ None) × Gains r.note_old r.note_new usage_line
+  -- on such words nothing is read or written, whatever the status
+  pub no_job : job_of r.words ≡ None → (r.files_new ≡ r.files_old) × (Gains r.out_old r.out_new [])
+      × ((r.status ≡ status.Usage) ⊎ (r.status ≡ status.Memory) ⊎ (Rose r.note_old.faults r.note_new.faults))
+  -- status 3 comes only where a call of the job's reads failed, and the note gained the line that names it
+  pub read : r.status ≡ status.Read → (read : Call) × (ReadFailed r.files_old r.files_new (job_of r.words) read)
+      × Gains r.note_old r.note_new (read_line read)
   -- status 4 comes only where the count of the output or of the note rose; a note that didn't fail gained its line
   pub write : r.status ≡ status.Write → Rose r.note_old.faults r.note_new.faults
-      ⊎ (Rose r.out_old.faults r.out_new.faults × Gains r.note_old r.note_new (codes "edt: write\n"))
+      ⊎ (Rose r.out_old.faults r.out_new.faults × Gains r.note_old r.note_new write_line)
   -- with status 5 the note gained its line
-  pub memory : r.status ≡ status.Memory → Gains r.note_old r.note_new (codes "edt: memory\n")
-  -- every status but 0 and 4 leaves the output as it was
-  pub quiet : (r.status ≡ status.Done → ⊥) → (r.status ≡ status.Write → ⊥) → Gains r.out_old r.out_new []
-  -- the note: the line of the status before a failed note changes it, written as every text is, so that
-  -- with sure room for it nothing fails
-  pub note : (said : Status) × (noted : Bool) × HasCause r said × Wrote r.note_old r.note_new (note_line r.words said) noted
-      × (r.status ≡ (if noted then said else status.Write))
-  -- what stays: the files hold what they held, and no count of faults falls
-  pub kept : KeepsFiles r.files_old r.files_new × (r.out_old.faults ≤ r.out_new.faults) × (r.note_old.faults ≤ r.note_new.faults)
+  pub memory : r.status ≡ status.Memory → Gains r.note_old r.note_new memory_line
+  -- every status but 0 and 4 leaves the output as it was, but for a command that writes line by line
+  pub quiet : writes_early (job_of r.words) ≡ false → (r.status ≡ status.Done → ⊥) → (r.status ≡ status.Write → ⊥)
+      → Gains r.out_old r.out_new []
+  -- the note: a line with its cause is written as every text is, so that with sure room for it nothing
+  -- fails; a note that fails puts status 4 in place of any other
+  pub note : (said : Status) × (line : List ℕ) × (noted : Bool) × (HasCause r said line)
+      × (Wrote r.note_old r.note_new line noted) × (r.status ≡ (if noted then said else status.Write))
+  -- the files hold what they held, and no count of faults falls
+  pub kept : KeepsFiles r.files_old r.files_new × (r.out_old.faults ≤ r.out_new.faults)
+      × (r.note_old.faults ≤ r.note_new.faults)
 
 -- over files that don't fail, with sure room for the answer's text and for the lines that can come, no
 -- premise on the sinks is left: the run ends with its answer or with want of memory
 abbrev pub EndsWithAnswer : Type 0
 EndsWithAnswer = (r : Run) → KeepsPromises r → (held : List (List ℕ × List ℕ)) → held_of r.files_old ≡ Some held
-    → (answer : Status) (text : List ℕ) → IsAnswer held r.words answer text → (Rose r.files_old.faults r.files_new.faults → ⊥)
-    → length text ≤ r.out_old.room → r.out_old.faults < 2 ^ 64 - 1
-    → length (note_line r.words answer) ≤ r.note_old.room → length (codes "edt: memory\n") ≤ r.note_old.room → r.note_old.faults < 2 ^ 64 - 1
-    → (r.status ≡ answer) ⊎ (r.status ≡ status.Memory)
+    → (answer : Answer) → IsAnswerIn r answer → (Rose r.files_old.faults r.files_new.faults → ⊥)
+    → length answer.text ≤ r.out_old.room → r.out_old.faults < 2 ^ 64 - 1
+    → length answer.line ≤ r.note_old.room → length memory_line ≤ r.note_old.room → r.note_old.faults < 2 ^ 64 - 1
+    → (r.status ≡ answer.status) ⊎ (r.status ≡ status.Memory)

@@ -29,7 +29,8 @@ tail_length (Some t) = length (spelling t) - 1
 unfoldable pub tokens_behind : ℕ → List ℕ → List (Option Token)
 tokens_behind skip [] = []
 tokens_behind (suc skip) (b ∷ bs) = tokens_behind skip bs
-tokens_behind zero (b ∷ bs) = if is_blank b then tokens_behind 0 bs else token_at b bs ∷ tokens_behind (tail_length (token_at b bs)) bs
+tokens_behind zero (b ∷ bs) = if is_blank b then tokens_behind 0 bs
+    else token_at b bs ∷ tokens_behind (tail_length (token_at b bs)) bs
 
 -- the tokens of these bytes
 abbrev pub tokens_of : List ℕ → List (Option Token)
@@ -40,7 +41,8 @@ pub record Parent : Type 0 where
   pub name : List ℕ
   pub before : List Named
 
--- where reading stands: the open nodes, innermost first, the nodes before it in the innermost braces, and the count of all nodes
+-- where reading stands: the open nodes, innermost first, the nodes before it in the innermost braces, and the count of
+-- all nodes
 pub record Front : Type 0 where
   pub outer : List Parent
   pub here : List Named
@@ -60,7 +62,12 @@ sibling_names = map (λ n. n.name)
 -- behind the end of the innermost node, but the root
 abbrev pub leave : List Parent → List Named → ℕ → Option Front
 leave [] here count = None
-leave (p ∷ ps) here count = Some (record { outer = ps; here = p.before ++ record { name = p.name; below = forest_from here } ∷ []; count = count })
+leave (p ∷ ps) here count = Some (record {
+  outer = ps;
+  here = p.before
+      ++ record { name = p.name; below = forest_from here } ∷ [];
+  count = count;
+})
 
 abbrev pub left : Front → Option Front
 left f = leave f.outer f.here f.count

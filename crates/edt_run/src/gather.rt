@@ -66,8 +66,8 @@ pub(crate) fn flush<S: Sink>(out: &mut S, gather: &mut Gather) -> Result<(), Wri
     Ok(())
 }
 
-/// Puts a piece behind what is held, which goes to the sink first where there is no room for both; a
-/// piece longer than a block goes out by itself. Takes no memory.
+/// Puts a piece behind what is held, which goes to the sink first where there is no room for both;
+/// a piece longer than a block goes out by itself. Takes no memory.
 pub(crate) fn put<S: Sink>(
     out: &mut S,
     gather: &mut Gather,

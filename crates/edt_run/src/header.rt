@@ -20,8 +20,8 @@ pub(crate) struct HeaderWriter {
     gather: Gather,
 }
 
-/// Takes the memory that writing a header takes, which doesn't depend on the header. The one error is
-/// want of memory.
+/// Takes the memory that writing a header takes, which doesn't depend on the header. The one error
+/// is want of memory.
 pub(crate) fn prepare(alloc: Global) -> Result<HeaderWriter, AllocError> {
     Ok(HeaderWriter {
         gather: Gather::new(alloc)?,
@@ -29,7 +29,8 @@ pub(crate) fn prepare(alloc: Global) -> Result<HeaderWriter, AllocError> {
 }
 
 /// Writes the header of the root with these nodes below it. With `WriteFailed` a front of it was
-/// written. Takes no memory; braces nest no deeper than the reader lets them, so neither do the calls.
+/// written. Takes no memory; braces nest no deeper than the reader lets them, so neither do the
+/// calls.
 pub(crate) fn emit<S: Sink>(
     writer: HeaderWriter,
     nodes: &[Node],

@@ -1,11 +1,12 @@
 //! Laws of the small source, as contracts: reading is the relation, and a source has one tree.
 
-ghost use Rattle.std.specs.Prelude.{◌≡◌, ℕ, List, Some};
+ghost use Rattle.std.specs.Prelude.{◌≡◌, ℕ, List, Option, Some};
 ghost use Rattle.edt_run.specs.Forest.{Forest};
 ghost use Rattle.edt_run.specs.Reading.{reading};
 ghost use Rattle.edt_run.specs.Small.{IsSmall};
+ghost use Rattle.edt_run.specs.Answer.{Answer, Given};
+ghost use Rattle.edt_run.specs.Job.{JobData};
 ghost use Rattle.edt_run.specs.Promises.{IsAnswer, EndsWithAnswer};
-ghost use Rattle.edt_run.specs.declared.top.Status.{Status};
 
 /// The bytes that are read as a tree are a small source of that tree, and every small source is
 /// read as its tree.
@@ -19,10 +20,11 @@ pub(crate) fn one_tree()
     ensures { (bytes : List ℕ) (f g : Forest) → IsSmall bytes f → IsSmall bytes g → f ≡ g }
 {}
 
-/// A run has one answer: over the same files the same words have one status and one output.
+/// A run has one answer: over the same words and what was read there is one status, one output and
+/// one line.
 pub(crate) fn one_answer()
-    ensures { (held : List (List ℕ × List ℕ)) (words : List (List ℕ)) (s : Status) (t : List ℕ) (s' : Status) (t' : List ℕ)
-        → IsAnswer held words s t → IsAnswer held words s' t' → (s ≡ s') × (t ≡ t') }
+    ensures { (job : Option JobData) (given : Given) (a b : Answer) → IsAnswer job given a
+        → IsAnswer job given b → a ≡ b }
 {}
 
 /// A run over files that don't fail and sinks with sure room ends with its answer, or with want of

@@ -2,14 +2,20 @@
 #![tactic(auto)]
 
 mod apart;
+mod asked;
+mod decision;
 mod gather;
 mod header;
 mod laws;
 mod node;
 mod piece;
 mod reader;
+mod sources;
 mod token;
 mod top;
 mod trail;
+mod words;
 
+pub use asked::{Cmd, Job};
 pub use top::{Status, run};
+pub use words::job;

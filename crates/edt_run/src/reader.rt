@@ -52,7 +52,8 @@ enum Step {
 /// Reads a small source: gives the nodes below its root, or `None` where the source is not small.
 /// The one error is want of memory.
 pub(crate) fn read_small(alloc: Global, source: &[u8]) -> Result<Option<Vec<Node>>, AllocError>
-    ensures found { IfOk result (λ r. IfSome r (λ nodes. IsSmall source.now (forest_of nodes.items))) }
+    ensures found { IfOk result
+        (λ r. IfSome r (λ nodes. IsSmall source.now (forest_of nodes.items))) }
     ensures none { IfOk result (λ r. IfNone r ((f : Forest) → IsSmall source.now f → ⊥)) }
 {
     let mut tokens = Tokens::of(source);
@@ -64,7 +65,8 @@ pub(crate) fn read_small(alloc: Global, source: &[u8]) -> Result<Option<Vec<Node
 
 /// Reads what stands behind the brace of the root.
 fn read_root(alloc: Global, tokens: &mut Tokens<'_>) -> Result<Option<Vec<Node>>, AllocError>
-    ensures { IfOk result (λ r. option_map (λ nodes. forest_of nodes.items) r ≡ nested start (tokens_of tokens.old)) }
+    ensures { IfOk result
+        (λ r. option_map (λ nodes. forest_of nodes.items) r ≡ nested start (tokens_of tokens.old)) }
 {
     let mut reader = Reader::new(alloc);
     while let Some(brace) = tokens.next_brace() {
@@ -92,7 +94,8 @@ impl Reader {
     /// Takes the next brace.
     fn take(&mut self, alloc: Global, brace: Brace<'_>) -> Result<Step, AllocError>
         ensures { IfOk result (λ step. (ts : List (Option Token)) →
-            nested (front_of self.old) (brace_tokens brace.entry ++ ts) ≡ after_step step (front_of self.new) ts) }
+            nested (front_of self.old) (brace_tokens brace.entry ++ ts)
+            ≡ after_step step (front_of self.new) ts) }
     {
         match brace {
             Brace::Open(name) => {
@@ -137,7 +140,8 @@ impl Reader {
     fn leave(&mut self, alloc: Global) -> Result<Option<Vec<Node>>, AllocError>
         ensures { IfOk result (λ nodes. MatchOption nodes
             (left (front_of self.old) ≡ Some (front_of self.new))
-            (λ v. (left (front_of self.old) ≡ None) × (map named v.items ≡ (front_of self.old).here))) }
+            (λ v. (left (front_of self.old) ≡ None)
+            × (map named v.items ≡ (front_of self.old).here))) }
     {
         let below = mem::replace(&mut self.here, Vec::new(alloc));
         let Some(open) = self.outer.pop() else {

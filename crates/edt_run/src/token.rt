@@ -64,7 +64,8 @@ impl<'a> Tokens<'a> {
 
     /// The next token, which goes as far as it can. `None` where nothing but blanks is left.
     pub(crate) fn next_token(&mut self) -> Option<Token<'a>>
-        ensures token { MatchOption result (tokens_of self.old ≡ []) (λ t. tokens_of self.old ≡ token_of t ∷ tokens_of self.new) }
+        ensures token { MatchOption result (tokens_of self.old ≡ [])
+            (λ t. tokens_of self.old ≡ token_of t ∷ tokens_of self.new) }
         ensures shorter { OnSome result (length self.new < length self.old) }
     {
         let (token, rest) = front_token(after_blanks(self.rest))?;
@@ -75,7 +76,8 @@ impl<'a> Tokens<'a> {
     /// Takes what a source begins with, up to the brace of the root. `false` where something else
     /// stands there.
     pub(crate) fn begins(&mut self) -> bool
-        ensures { tree_of (tokens_of self.old) ≡ (if result then nested start (tokens_of self.new) else None) }
+        ensures { tree_of (tokens_of self.old)
+            ≡ (if result then nested start (tokens_of self.new) else None) }
     {
         matches!(self.next_token(), Some(Token::Version))
             && matches!(self.next_token(), Some(Token::Semicolon))
@@ -118,7 +120,8 @@ fn blank_length(bytes: &[u8]) -> usize
 /// The token that begins with the first byte, which is no blank, and the bytes behind it.
 fn front_token(bytes: &[u8]) -> Option<(Token<'_>, &[u8])>
     requires { begins_with is_blank bytes.now ≡ false }
-    ensures token { MatchOption result (tokens_of bytes.now ≡ []) (λ r. tokens_of bytes.now ≡ token_of r.0 ∷ tokens_of r.1.now) }
+    ensures token { MatchOption result (tokens_of bytes.now ≡ [])
+        (λ r. tokens_of bytes.now ≡ token_of r.0 ∷ tokens_of r.1.now) }
     ensures shorter { IfSome result (λ r. length r.1.now < length bytes.now) }
 {
     if let Some(behind) = bytes.strip_prefix(VERSION) {

@@ -1,4 +1,5 @@
--- The header's text: a line a definition, comments before the definitions of each node and of the tree, and no definition twice.
+-- The header's text: a line a definition, comments before the definitions of each node and of the tree, and no
+-- definition twice.
 use Rattle.std.specs.Prelude.{◌+◌, ◌==◌, ◌++◌, ℕ, Bool, false, List, [], ◌∷◌, Option, None, Some, codes, if◌then◌else◌}
 use Rattle.std.specs.List.{flat_map}
 use Rattle.edt_base.specs.BoundData.{BoundData}
@@ -42,7 +43,8 @@ behind place (d ∷ ds) = if place == d then ds else d ∷ ds
 -- definitions, the first at a place, each with whether it stands at one of these places, which rise
 abbrev pub entries_from : ℕ → List ℕ → List FactData → List Entry
 entries_from place doubles [] = []
-entries_from place doubles (f ∷ fs) = record { fact = f; is_double = is_first place doubles } ∷ entries_from (place + 1) (behind place doubles) fs
+entries_from place doubles (f ∷ fs) =
+    record { fact = f; is_double = is_first place doubles } ∷ entries_from (place + 1) (behind place doubles) fs
 
 -- all definitions of a bound tree in order, each with whether it is a double
 unfoldable pub entries : BoundData → List Entry

@@ -2,7 +2,7 @@
 
 ghost use Rattle.std.specs.Prelude.{◌≡◌, ◌++◌, ◌∷◌, [], OnOk, is_ok, if◌then◌else◌};
 ghost use Rattle.edt_base.specs.Outside.{Wrote};
-ghost use Rattle.head_write.specs.Put.{Put};
+ghost use Rattle.head_write.specs.Inner.Put.{Put};
 
 use arrayvec::ArrayVec;
 use edt_base::{Sink, WriteFailed, write_text};
@@ -68,8 +68,8 @@ pub(crate) fn flush<S: Sink>(out: &mut S, block: &mut Block) -> Result<(), Write
 }
 
 #[inline(always)]
-/// Puts a piece behind what is held, which goes to the sink first where there is no room for both; a
-/// piece longer than a block goes out by itself.
+/// Puts a piece behind what is held, which goes to the sink first where there is no room for both;
+/// a piece longer than a block goes out by itself.
 pub(crate) fn put<S: Sink>(out: &mut S, block: &mut Block, piece: &[u8]) -> Result<(), WriteFailed>
     ensures { Put (S.seen out.old) (S.seen out.new) block.old block.new piece.now (is_ok result) }
 {

@@ -47,7 +47,8 @@ impl<'a> Entries<'a> {
 
     /// The next definition; None exactly after the last.
     pub(crate) fn next(&mut self) -> Option<Entry<'a>>
-        ensures { MatchOption result ((self.old ≡ []) × (self.new ≡ [])) (λ e. self.old ≡ e ∷ self.new) }
+        ensures { MatchOption result ((self.old ≡ []) × (self.new ≡ []))
+            (λ e. self.old ≡ e ∷ self.new) }
     {
         let fact = self.facts.next()?;
         let (is_double, left) = split(self.place, self.doubles);
@@ -73,7 +74,8 @@ fn split<'a>(place: u64, doubles: &'a [u64]) -> (bool, &'a [u64])
     }
 }
 
-// The place behind this one, with the doubles that can still be met: none behind the greatest number.
+// The place behind this one, with the doubles that can still be met: none behind the greatest
+// number.
 fn step<'a>(place: u64, doubles: &'a [u64]) -> (u64, &'a [u64])
     ensures { (facts : List FactData) →
         entries_from (place + 1) doubles.now facts ≡ entries_from result.0 result.1.now facts }

@@ -11,10 +11,10 @@ use dt_names::Fact;
 use edt_base::{Bound, Sink, WriteFailed};
 
 #[tactic(auto, unfolding(crate::specs::Header::header_text))]
-/// Writes the header of a bound tree, as `header_text` in `specs/Header.antt` has it: a line for each
-/// definition that is no double by `doubles` of the tree, in order, with a comment before those of
-/// each node and those of the tree. With `WriteFailed`, which comes only where the sink's count of
-/// faults rose, a front of it was written. Takes no memory.
+/// Writes the header of a bound tree, as `header_text` in `specs/Header.antt` has it: a line for
+/// each definition that is no double by `doubles` of the tree, in order, with a comment before
+/// those of each node and those of the tree. With `WriteFailed`, which comes only where the sink's
+/// count of faults rose, a front of it was written. Takes no memory.
 pub fn emit<S: Sink>(bound: &Bound, out: &mut S) -> Result<(), WriteFailed>
     ensures { Wrote (S.seen out.old) (S.seen out.new) (header_text bound.now) (is_ok result) }
 {

@@ -1,7 +1,7 @@
 //! The length of the header, without writing it.
 
 ghost use Rattle.std.specs.Prelude.{◌≡◌, ◌-◌, ◌^◌, length, min, option_map};
-ghost use Rattle.dt_names.specs.Lengths.{spelled_size};
+ghost use Rattle.dt_names.specs.Inner.Lengths.{spelled_size};
 ghost use Rattle.head_write.specs.Header.{body_text, entry_text, header_text, heading_text, line};
 
 use crate::entry::{Entries, Entry};
@@ -38,7 +38,8 @@ fn entry_len(entry: &Entry<'_>) -> u64
 #[tactic(auto, unfolding(crate::specs::Header::heading_text))]
 // The length of the comment before a definition.
 fn heading_len(heading: Option<&[u8]>) -> u64
-    ensures { result ≡ min (length (heading_text (option_map (λ h. h.now) heading.entry))) (2 ^ 64 - 1) }
+    ensures { result
+        ≡ min (length (heading_text (option_map (λ h. h.now) heading.entry))) (2 ^ 64 - 1) }
 {
     match heading {
         Some(title) => (title.len() as u64).saturating_add(7),

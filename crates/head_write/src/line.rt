@@ -3,7 +3,7 @@
 ghost use Rattle.std.specs.Prelude.{◌≡◌, is_ok, option_map};
 ghost use Rattle.dt_names.specs.Pieces.{spells};
 ghost use Rattle.head_write.specs.Header.{body_text, entry_text, heading_text, line, params_text};
-ghost use Rattle.head_write.specs.Put.{Put};
+ghost use Rattle.head_write.specs.Inner.Put.{Put};
 
 use crate::block::{Block, put};
 use crate::entry::Entry;
@@ -17,7 +17,8 @@ pub(crate) fn put_entry<S: Sink>(
     block: &mut Block,
     entry: &Entry<'_>,
 ) -> Result<(), WriteFailed>
-    ensures { Put (S.seen out.old) (S.seen out.new) block.old block.new (entry_text entry.now) (is_ok result) }
+    ensures { Put (S.seen out.old) (S.seen out.new) block.old block.new (entry_text entry.now)
+        (is_ok result) }
 {
     put_heading(out, block, entry.fact.heading())?;
     if entry.is_double {
@@ -50,7 +51,8 @@ pub(crate) fn put_line<S: Sink>(
     block: &mut Block,
     fact: &Fact<'_>,
 ) -> Result<(), WriteFailed>
-    ensures { Put (S.seen out.old) (S.seen out.new) block.old block.new (line fact.now) (is_ok result) }
+    ensures { Put (S.seen out.old) (S.seen out.new) block.old block.new (line fact.now)
+        (is_ok result) }
 {
     put(out, block, b"#define ")?;
     put_pieces(out, block, fact.name())?;
@@ -77,7 +79,8 @@ fn put_body<S: Sink>(
     block: &mut Block,
     mut body: Pieces<'_>,
 ) -> Result<(), WriteFailed>
-    ensures { Put (S.seen out.old) (S.seen out.new) block.old block.new (body_text body.entry) (is_ok result) }
+    ensures { Put (S.seen out.old) (S.seen out.new) block.old block.new (body_text body.entry)
+        (is_ok result) }
 {
     match body.next() {
         None => Ok(()),

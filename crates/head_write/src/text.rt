@@ -4,8 +4,8 @@ ghost use Rattle.std.specs.Prelude.{is_ok, ◌≡◌, ◌≤◌, length, option_
 ghost use Rattle.std.specs.List.{flat_map};
 ghost use Rattle.edt_base.specs.Forms.{form_byte, form_char, form_of};
 ghost use Rattle.dt_names.specs.Pieces.{escaped, quoted, spell, spells};
-ghost use Rattle.dt_names.specs.Words.{piece_of};
-ghost use Rattle.head_write.specs.Put.{Put};
+ghost use Rattle.dt_names.specs.Inner.Words.{piece_of};
+ghost use Rattle.head_write.specs.Inner.Put.{Put};
 
 use crate::block::{Block, put, put_byte};
 use arrayvec::ArrayVec;
@@ -23,7 +23,8 @@ pub(crate) fn put_pieces<S: Sink>(
     block: &mut Block,
     mut pieces: Pieces<'_>,
 ) -> Result<(), WriteFailed>
-    ensures { Put (S.seen out.old) (S.seen out.new) block.old block.new (spells pieces.entry) (is_ok result) }
+    ensures { Put (S.seen out.old) (S.seen out.new) block.old block.new (spells pieces.entry)
+        (is_ok result) }
 {
     while let Some(piece) = pieces.next() {
         put_piece(out, block, piece)?;
@@ -38,7 +39,8 @@ pub(crate) fn put_piece<S: Sink>(
     block: &mut Block,
     piece: Piece<'_>,
 ) -> Result<(), WriteFailed>
-    ensures { Put (S.seen out.old) (S.seen out.new) block.old block.new (spell (piece_of piece.entry)) (is_ok result) }
+    ensures { Put (S.seen out.old) (S.seen out.new) block.old block.new
+        (spell (piece_of piece.entry)) (is_ok result) }
 {
     match piece {
         Piece::Lit(text) => put(out, block, text.as_bytes()),
@@ -51,7 +53,8 @@ pub(crate) fn put_piece<S: Sink>(
 #[tactic(auto, unfolding(edt_base::specs::Forms::form_of))]
 // Puts the form of a text, a chunk at a time.
 fn put_form<S: Sink>(out: &mut S, block: &mut Block, text: &[u8]) -> Result<(), WriteFailed>
-    ensures { Put (S.seen out.old) (S.seen out.new) block.old block.new (form_of text.now) (is_ok result) }
+    ensures { Put (S.seen out.old) (S.seen out.new) block.old block.new (form_of text.now)
+        (is_ok result) }
 {
     let mut left = text;
     while !left.is_empty() {
@@ -106,7 +109,8 @@ fn form_byte(byte: u8) -> u8
 
 // Puts a text as a string literal.
 fn put_quoted<S: Sink>(out: &mut S, block: &mut Block, text: &[u8]) -> Result<(), WriteFailed>
-    ensures { Put (S.seen out.old) (S.seen out.new) block.old block.new (quoted text.now) (is_ok result) }
+    ensures { Put (S.seen out.old) (S.seen out.new) block.old block.new (quoted text.now)
+        (is_ok result) }
 {
     put_byte(out, block, b'"')?;
     put_escaped(out, block, text)?;
@@ -115,7 +119,8 @@ fn put_quoted<S: Sink>(out: &mut S, block: &mut Block, text: &[u8]) -> Result<()
 
 // Puts a text as it stands between the quotes of a string literal.
 fn put_escaped<S: Sink>(out: &mut S, block: &mut Block, text: &[u8]) -> Result<(), WriteFailed>
-    ensures { Put (S.seen out.old) (S.seen out.new) block.old block.new (flat_map escaped text.now) (is_ok result) }
+    ensures { Put (S.seen out.old) (S.seen out.new) block.old block.new (flat_map escaped text.now)
+        (is_ok result) }
 {
     for byte in text {
         put_escaped_byte(out, block, *byte)?;
@@ -125,7 +130,8 @@ fn put_escaped<S: Sink>(out: &mut S, block: &mut Block, text: &[u8]) -> Result<(
 
 // Puts a byte as it stands in a string literal.
 fn put_escaped_byte<S: Sink>(out: &mut S, block: &mut Block, byte: u8) -> Result<(), WriteFailed>
-    ensures { Put (S.seen out.old) (S.seen out.new) block.old block.new (escaped byte) (is_ok result) }
+    ensures { Put (S.seen out.old) (S.seen out.new) block.old block.new (escaped byte)
+        (is_ok result) }
 {
     if byte == b'"' || byte == b'\\' {
         put(out, block, &[b'\\', byte])

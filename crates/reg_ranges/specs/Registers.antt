@@ -23,7 +23,8 @@ is_empty_cut c = holds_number 0 c.size
 -- the registers from a place on, each with the name at its place
 abbrev pub with_names : ℕ → List Cut → List Part → List Reg
 with_names i [] parts = []
-with_names i (c ∷ cs) parts = record { addr = c.addr; size = c.size; name = entry_name parts i } ∷ with_names (i + 1) cs parts
+with_names i (c ∷ cs) parts =
+    record { addr = c.addr; size = c.size; name = entry_name parts i } ∷ with_names (i + 1) cs parts
 
 -- the registers of these cuts, or the first rule that they break: a size of 0, names that don't fit
 abbrev pub named_regs : List Cut → Option (List Part) → Result (List Reg) Rule
@@ -44,7 +45,8 @@ counted_regs _ _ value names = Err rule.V17
 -- the registers of a node without `reg`: none
 abbrev pub regs_in : List NodeData → ℕ → ℕ → Option (List Part) → Result (List Reg) Rule
 regs_in nodes up id None = Ok []
-regs_in nodes up id (Some value) = counted_regs (address_cells nodes up) (size_cells nodes up) value (prop_at nodes id (codes "reg-names"))
+regs_in nodes up id (Some value) =
+    counted_regs (address_cells nodes up) (size_cells nodes up) value (prop_at nodes id (codes "reg-names"))
 
 -- the registers of a node below this one; the root, which is below none, has none
 abbrev pub regs_below : List NodeData → Option ℕ → ℕ → Result (List Reg) Rule

@@ -28,9 +28,9 @@ pub(crate) struct Shape {
 /// parent address, and its own `#size-cells` how many a length; a number of no cells is 0. None at
 /// the root, without `ranges` and with an empty one.
 ///
-/// The fault is the first of these, at the node: V17 where one of the three counts isn't one cell or
-/// is more than 4, V19 where the value isn't whole entries, V38 where a range ends beyond 2^128 among
-/// the child's or the parent's addresses.
+/// The fault is the first of these, at the node: V17 where one of the three counts isn't one cell
+/// or is more than 4, V19 where the value isn't whole entries, V38 where a range ends beyond 2^128
+/// among the child's or the parent's addresses.
 pub fn ranges(alloc: Global, t: &Tree, id: NodeId) -> Result<Vec<Range>, End>
     requires { id < length t.now.nodes }
     ensures cut { IfOk result (λ v. ranges_of t.now.nodes id ≡ Ok v.items) }
@@ -51,7 +51,8 @@ fn ranges_below(
 ) -> Result<Vec<Range>, Stop>
     requires there { id < length t.now.nodes }
     requires parent { IfSome parent (λ up. up < length t.now.nodes) }
-    ensures cut { IfOk result (λ v. unwrap_or (ranges_below t.now.nodes parent id) (Ok []) ≡ Ok v.items) }
+    ensures cut { IfOk result
+        (λ v. unwrap_or (ranges_below t.now.nodes parent id) (Ok []) ≡ Ok v.items) }
     ensures stop { IfErr result (IsStop (unwrap_or (ranges_below t.now.nodes parent id) (Ok []))) }
 {
     let Some(up) = parent else {
@@ -70,7 +71,11 @@ pub(crate) fn shape_of(t: &Tree, up: NodeId, id: NodeId) -> Option<Shape>
     ensures shape { result ≡ shape_of t.now.nodes up id }
     ensures small { IfSome result IsSmall }
 {
-    shape_by(address_cells(t, id), address_cells(t, up), size_cells(t, id))
+    shape_by(
+        address_cells(t, id),
+        address_cells(t, up),
+        size_cells(t, id),
+    )
 }
 
 fn shape_by(child: Option<usize>, parent: Option<usize>, len: Option<usize>) -> Option<Shape>
@@ -127,7 +132,8 @@ pub(crate) fn range_cells(shape: Shape) -> usize
 fn ranges_cut(alloc: Global, cells: Cells<'_>, shape: Shape) -> Result<Vec<Range>, AllocError>
     requires small { IsSmall shape }
     requires some { 0 < range_cells shape }
-    ensures { IfOk result (λ v. v.items ≡ entries (first_range shape) (range_cells shape) (cells_of cells.entry)) }
+    ensures { IfOk result
+        (λ v. v.items ≡ entries (first_range shape) (range_cells shape) (cells_of cells.entry)) }
 {
     let mut cells = cells;
     let mut ranges = Vec::new(alloc);

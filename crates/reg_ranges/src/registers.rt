@@ -22,14 +22,14 @@ pub(crate) struct Cut {
     pub(crate) size: Option<u128>,
 }
 
-/// The registers of a node: the entries of its `reg` (Devicetree Specification v0.4, 2.3.6), with the
-/// names that `reg-names` gives them, and with their addresses as they are written. The parent's
-/// `#address-cells` and `#size-cells` say how many cells each number has; one of no cells isn't
-/// there. None at the root and without `reg`.
+/// The registers of a node: the entries of its `reg` (Devicetree Specification v0.4, 2.3.6), with
+/// the names that `reg-names` gives them, and with their addresses as they are written. The
+/// parent's `#address-cells` and `#size-cells` say how many cells each number has; one of no cells
+/// isn't there. None at the root and without `reg`.
 ///
 /// The fault is the first of these, at the node: V17 where one of the counts isn't one cell or is
-/// more than 4, V15 where the value isn't whole entries of one or more cells, V16 where a size is 0,
-/// V18 where `reg-names` is there and isn't as many strings.
+/// more than 4, V15 where the value isn't whole entries of one or more cells, V16 where a size is
+/// 0, V18 where `reg-names` is there and isn't as many strings.
 pub fn regs(alloc: Global, t: &Tree, id: NodeId) -> Result<Vec<Reg>, End>
     requires { id < length t.now.nodes }
     ensures cut { IfOk result (λ v. regs_of t.now.nodes id ≡ Ok v.items) }
@@ -42,12 +42,7 @@ pub fn regs(alloc: Global, t: &Tree, id: NodeId) -> Result<Vec<Reg>, End>
 }
 
 // The registers of a node with this parent.
-fn regs_below(
-    alloc: Global,
-    t: &Tree,
-    parent: Option<NodeId>,
-    id: NodeId,
-) -> Result<Vec<Reg>, Stop>
+fn regs_below(alloc: Global, t: &Tree, parent: Option<NodeId>, id: NodeId) -> Result<Vec<Reg>, Stop>
     requires there { id < length t.now.nodes }
     requires parent { IfSome parent (λ up. up < length t.now.nodes) }
     ensures cut { IfOk result (λ v. regs_below t.now.nodes parent id ≡ Ok v.items) }
@@ -78,8 +73,11 @@ fn counted_regs(
 ) -> Result<Vec<Reg>, Stop>
     requires address { IfSome address (λ n. n ≤ 4) }
     requires size { IfSome size (λ n. n ≤ 4) }
-    ensures cut { IfOk result (λ v. counted_regs address size value.now (option_map (λ n. n.now) names.entry) ≡ Ok v.items) }
-    ensures stop { IfErr result (IsStop (counted_regs address size value.now (option_map (λ n. n.now) names.entry))) }
+    ensures cut { IfOk result
+        (λ v. counted_regs address size value.now (option_map (λ n. n.now) names.entry)
+        ≡ Ok v.items) }
+    ensures stop { IfErr result (IsStop (counted_regs address size value.now (option_map
+        (λ n. n.now) names.entry))) }
 {
     match (address, size) {
         (Some(address), Some(size)) => cut_regs(alloc, address, size, value, names),
@@ -97,8 +95,10 @@ fn cut_regs(
 ) -> Result<Vec<Reg>, Stop>
     requires address { address ≤ 4 }
     requires size { size ≤ 4 }
-    ensures cut { IfOk result (λ v. cut_regs address size value.now (option_map (λ n. n.now) names.entry) ≡ Ok v.items) }
-    ensures stop { IfErr result (IsStop (cut_regs address size value.now (option_map (λ n. n.now) names.entry))) }
+    ensures cut { IfOk result
+        (λ v. cut_regs address size value.now (option_map (λ n. n.now) names.entry) ≡ Ok v.items) }
+    ensures stop { IfErr result (IsStop (cut_regs address size value.now (option_map
+        (λ n. n.now) names.entry))) }
 {
     if address + size == 0 || !is_whole(value, address + size) {
         return Err(Stop::Broken(Rule::V15));
@@ -117,7 +117,8 @@ fn cuts_of(
     requires address { address ≤ 4 }
     requires size { size ≤ 4 }
     requires some { 0 < address + size }
-    ensures { IfOk result (λ v. v.items ≡ entries (first_cut address size) (address + size) (cells_of cells.entry)) }
+    ensures { IfOk result
+        (λ v. v.items ≡ entries (first_cut address size) (address + size) (cells_of cells.entry)) }
 {
     let mut cells = cells;
     let mut cuts = Vec::new(alloc);
@@ -141,8 +142,10 @@ fn first_cut(cells: &mut Cells<'_>, address: usize, size: usize) -> Cut
 
 // The registers with their names.
 fn named_regs(alloc: Global, cuts: &[Cut], names: Option<&PropVal>) -> Result<Vec<Reg>, Stop>
-    ensures cut { IfOk result (λ v. named_regs cuts.now (option_map (λ n. n.now) names.entry) ≡ Ok v.items) }
-    ensures stop { IfErr result (IsStop (named_regs cuts.now (option_map (λ n. n.now) names.entry))) }
+    ensures cut { IfOk result
+        (λ v. named_regs cuts.now (option_map (λ n. n.now) names.entry) ≡ Ok v.items) }
+    ensures stop { IfErr result (IsStop (named_regs cuts.now (option_map
+        (λ n. n.now) names.entry))) }
 {
     if any_empty(cuts) {
         return Err(Stop::Broken(Rule::V16));
@@ -169,12 +172,9 @@ fn is_empty_cut(cut: Cut) -> bool
     }
 }
 
-fn with_names(
-    alloc: Global,
-    cuts: &[Cut],
-    names: Option<&PropVal>,
-) -> Result<Vec<Reg>, AllocError>
-    ensures { IfOk result (λ v. v.items ≡ with_names 0 cuts.now (name_parts (option_map (λ n. n.now) names.entry))) }
+fn with_names(alloc: Global, cuts: &[Cut], names: Option<&PropVal>) -> Result<Vec<Reg>, AllocError>
+    ensures { IfOk result
+        (λ v. v.items ≡ with_names 0 cuts.now (name_parts (option_map (λ n. n.now) names.entry))) }
 {
     let mut regs = Vec::with_capacity(alloc, cuts.len())?;
     for (at, cut) in cuts.iter().enumerate() {

@@ -34,8 +34,12 @@ fn moved(address: u128, range: Range) -> u128
 fn first_fit(cells: Cells<'_>, shape: Shape, address: u128) -> Option<u128>
     requires small { IsSmall shape }
     requires some { 0 < range_cells shape }
-    requires within { All IsWithin (entries (first_range shape) (range_cells shape) (cells_of cells)) }
-    ensures { result ≡ option_map (moved address) (find (fits address) (entries (first_range shape) (range_cells shape) (cells_of cells.entry))) }
+    requires within { All IsWithin
+        (entries (first_range shape) (range_cells shape) (cells_of cells)) }
+    ensures { result
+        ≡ option_map (moved address)
+        (find (fits address) (entries (first_range shape) (range_cells shape)
+        (cells_of cells.entry))) }
 {
     let mut cells = cells;
     while !cells.is_empty() {

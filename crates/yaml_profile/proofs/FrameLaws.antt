@@ -2,7 +2,7 @@
 use Rattle.std.proofs.Common.{◌≡◌, ℕ, List, [], ◌∷◌, ◌++◌, map, reverse, length, refl, ap, ◌∙◌}
 use Rattle.std.proofs.lemmas.List.{reverse-append, length-map, length-reverse}
 use Rattle.yaml_profile.specs.declared.front.Frame.{Frame as Open}
-use Rattle.yaml_profile.specs.Shown.{frame_of, frames_of}
+use Rattle.yaml_profile.specs.Inner.Shown.{frame_of, frames_of}
 use Rattle.std.specs.List.{zip}
 use Rattle.edt_base.specs.declared.yaml.Yaml.{Yaml}
 use Rattle.edt_base.specs.YamlData.{pair, pairs_from, value_of, pair_of}

@@ -7,7 +7,7 @@ ghost use Rattle.yaml_profile.specs.Fronts.{front, InHeader};
 ghost use Rattle.yaml_profile.specs.Layout.{with_chomp, in_header, in_header_comment, is_text_line};
 ghost use Rattle.yaml_profile.specs.Layout.{begin_text, is_indented, end_blank, end_block};
 ghost use Rattle.yaml_profile.specs.Layout.{at_text_line, at_blank_end, in_text_line};
-ghost use Rattle.yaml_profile.specs.Shown.{frames_of, shown};
+ghost use Rattle.yaml_profile.specs.Inner.Shown.{frames_of, shown};
 
 use crate::block_text::{Chomp, ScalarText};
 use crate::front::{Frame, is_deeper};

@@ -14,7 +14,7 @@ ghost use Rattle.yaml_profile.specs.Reads.{Reads};
 ghost use Rattle.yaml_profile.specs.Written.{IsSpelled};
 ghost use Rattle.yaml_profile.specs.Yaml.{IsYaml, IsFirst, IfValue, IfFault, IsFirstFault};
 ghost use Rattle.yaml_profile.specs.declared.stop.Broken.{Broken};
-ghost use Rattle.yaml_profile.specs.Shown.{frames_of, inner_of, shown};
+ghost use Rattle.yaml_profile.specs.Inner.Shown.{frames_of, inner_of, shown};
 
 use crate::front::{Frame, close, is_flow, pop};
 use crate::keys::is_key_only;

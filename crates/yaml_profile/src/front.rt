@@ -3,7 +3,7 @@
 ghost use Rattle.std.specs.Prelude.{◌≡◌, ◌∷◌, ◌<◌, [], IfOk, IfSome, MatchOption, length, map};
 ghost use Rattle.std.specs.List.{zip};
 ghost use Rattle.edt_base.specs.YamlData.{value_of, pair_of, a_map, a_list, pairs_from, items_from};
-ghost use Rattle.yaml_profile.specs.Shown.{frame_of, frames_of};
+ghost use Rattle.yaml_profile.specs.Inner.Shown.{frame_of, frames_of};
 ghost use Rattle.yaml_profile.specs.Fronts.{closed, is_full, is_flow, is_map_at, is_deeper};
 
 use edt_base::{Text, Yaml};

@@ -4,7 +4,7 @@ ghost use Rattle.std.specs.Prelude.{◌≡◌, false, string_bytes};
 ghost use Rattle.yaml_profile.specs.Answers.{Leaves};
 ghost use Rattle.yaml_profile.specs.Pieces.{open_list, open_flow, first_key, further_key, key_of};
 ghost use Rattle.yaml_profile.specs.Pieces.{plain_key, is_key_only, is_value_only};
-ghost use Rattle.yaml_profile.specs.Shown.{frames_of, shown};
+ghost use Rattle.yaml_profile.specs.Inner.Shown.{frames_of, shown};
 
 use crate::front::{Frame, Role, is_full, pop, push};
 use crate::reader::{Place, Reader};

@@ -7,7 +7,7 @@ ghost use Rattle.yaml_profile.specs.Layout.{is_dash, next_item, ends_block, next
 ghost use Rattle.yaml_profile.specs.Layout.{begin_comment, blank_line, begin_on_line};
 ghost use Rattle.yaml_profile.specs.Layout.{value_on_line, block_line, flow_line, mark_line};
 ghost use Rattle.yaml_profile.specs.Layout.{line_content, in_line, in_comment, in_mark};
-ghost use Rattle.yaml_profile.specs.Shown.{frame_of, frames_of, shown, waiting_of};
+ghost use Rattle.yaml_profile.specs.Inner.Shown.{frame_of, frames_of, shown, waiting_of};
 
 use crate::front::{Frame, Role, close, is_deeper, is_flow, is_map_at, pop, push};
 use crate::reader::{Place, Reader, Waiting};

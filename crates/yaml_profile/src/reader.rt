@@ -2,7 +2,7 @@
 
 ghost use Rattle.std.specs.Prelude.{◌≡◌};
 ghost use Rattle.yaml_profile.specs.Reading.{at_start};
-ghost use Rattle.yaml_profile.specs.Shown.{shown};
+ghost use Rattle.yaml_profile.specs.Inner.Shown.{shown};
 
 use crate::block_text::ScalarText;
 use crate::folding::FoldingText;

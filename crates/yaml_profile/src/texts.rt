@@ -8,7 +8,7 @@ ghost use Rattle.yaml_profile.specs.Pieces.{end_quotes, single_line, double_line
 ghost use Rattle.yaml_profile.specs.Pieces.{at_second_quote, in_double, escaped, put_escaped};
 ghost use Rattle.yaml_profile.specs.Pieces.{in_escape, end_digits, in_digits, quoted_key};
 ghost use Rattle.yaml_profile.specs.Pieces.{in_after_quoted};
-ghost use Rattle.yaml_profile.specs.Shown.{frames_of, shown};
+ghost use Rattle.yaml_profile.specs.Inner.Shown.{frames_of, shown};
 
 use crate::front::{Role, is_flow};
 use crate::keys::{is_key_only, is_value_only};

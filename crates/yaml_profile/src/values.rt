@@ -8,7 +8,7 @@ ghost use Rattle.yaml_profile.specs.Signs.{begins_nothing, place_of, behind};
 ghost use Rattle.yaml_profile.specs.Pieces.{after_item, end_flow, in_after_value, begin_block};
 ghost use Rattle.yaml_profile.specs.Pieces.{begin_sign, is_value_sign, begin_plain, begin_value};
 ghost use Rattle.yaml_profile.specs.Pieces.{in_at_value};
-ghost use Rattle.yaml_profile.specs.Shown.{frames_of, shown, waiting_of};
+ghost use Rattle.yaml_profile.specs.Inner.Shown.{frames_of, shown, waiting_of};
 ghost use Rattle.yaml_profile.specs.Fronts.{value_so_far};
 
 use crate::block_text::ScalarText;

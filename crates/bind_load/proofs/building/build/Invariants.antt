@@ -1,7 +1,7 @@
 use Rattle.std.proofs.Common.{◌≡◌, ◌++◌, map, length}
 use Rattle.std.specs.Option.{option_map}
 use Rattle.edt_base.specs.YamlData.{value_of}
-use Rattle.bind_load.specs.Seen.{level_data}
+use Rattle.bind_load.specs.Inner.Seen.{level_data}
 use Rattle.bind_load.specs.RecordOf.{level_in, record_in}
 use Rattle.bind_load.specs.RecordSeen.{record_of, rest_of}
 use Rattle.bind_load.proofs.building.build.Given as goal

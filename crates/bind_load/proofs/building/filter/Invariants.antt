@@ -1,6 +1,6 @@
 use Rattle.std.proofs.Common.{◌≡◌, ◌++◌, map, length}
 use Rattle.std.specs.Option.{option_map}
-use Rattle.bind_load.specs.Seen.{pairs_of, level_data}
+use Rattle.bind_load.specs.Inner.Seen.{pairs_of, level_data}
 use Rattle.bind_load.specs.FileMaps.{levels_below}
 use Rattle.bind_load.specs.RecordOf.{filter_level}
 use Rattle.bind_load.specs.RecordSeen.{filter_of, rest_of}

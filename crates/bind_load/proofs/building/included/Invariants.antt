@@ -1,7 +1,7 @@
 use Rattle.std.proofs.Common.{◌≡◌, ◌++◌, map, drop}
 use Rattle.std.specs.List.{flat_map}
 use Rattle.edt_base.specs.YamlData.{item_list}
-use Rattle.bind_load.specs.Seen.{items_of}
+use Rattle.bind_load.specs.Inner.Seen.{items_of}
 use Rattle.bind_load.specs.RecordOf.{include_in}
 use Rattle.bind_load.specs.RecordSeen.{include_of}
 use Rattle.bind_load.proofs.building.included.Given as goal

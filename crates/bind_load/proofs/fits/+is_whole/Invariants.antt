@@ -1,5 +1,5 @@
 use Rattle.std.proofs.Common.{◌≡◌, drop}
-use Rattle.bind_load.specs.Seen.{items_of, pairs_of}
+use Rattle.bind_load.specs.Inner.Seen.{items_of, pairs_of}
 use Rattle.bind_load.specs.Forms.{are_whole, are_whole_pairs}
 use Rattle.bind_load.proofs.fits.+is_whole.Given as goal
 

@@ -1,7 +1,7 @@
 use Rattle.std.proofs.Common.{◌≡◌, ℕ, List, drop}
 use Rattle.std.specs.List.{list_all}
 use Rattle.edt_base.specs.YamlData.{Value, pair_list}
-use Rattle.bind_load.specs.Seen.{pairs_of}
+use Rattle.bind_load.specs.Inner.Seen.{pairs_of}
 use Rattle.bind_load.specs.Forms.{is_map}
 use Rattle.bind_load.proofs.fits.are_maps.Given as goal
 

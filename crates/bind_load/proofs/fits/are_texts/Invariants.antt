@@ -1,7 +1,7 @@
 use Rattle.std.proofs.Common.{◌≡◌, drop}
 use Rattle.std.specs.List.{list_all}
 use Rattle.edt_base.specs.YamlData.{item_list}
-use Rattle.bind_load.specs.Seen.{items_of}
+use Rattle.bind_load.specs.Inner.Seen.{items_of}
 use Rattle.bind_load.specs.Forms.{is_text}
 use Rattle.bind_load.proofs.fits.are_texts.Given as goal
 

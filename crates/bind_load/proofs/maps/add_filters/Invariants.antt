@@ -1,5 +1,5 @@
 use Rattle.std.proofs.Common.{◌≡◌, ◌++◌, map, drop}
-use Rattle.bind_load.specs.Seen.{map_data, level_data}
+use Rattle.bind_load.specs.Inner.Seen.{map_data, level_data}
 use Rattle.bind_load.specs.FileMaps.{filter_map}
 use Rattle.bind_load.proofs.maps.add_filters.Given as goal
 

@@ -1,7 +1,7 @@
 use Rattle.std.proofs.Common.{◌≡◌, rules}
 use Rattle.edt_base.specs.YamlData.{value_of, a_map}
 use Rattle.edt_base.specs.declared.yaml.Yaml.{the_lemmas}
-use Rattle.bind_load.specs.Seen.{pairs_of}
+use Rattle.bind_load.specs.Inner.Seen.{pairs_of}
 use Rattle.bind_load.proofs.maps.add_include.Goals as goal
 
 pub returns-in-Map : goal.returns-in-Map

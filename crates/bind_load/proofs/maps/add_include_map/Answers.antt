@@ -1,5 +1,5 @@
 use Rattle.std.proofs.Common.{rules, ◌≡◌, map}
-use Rattle.bind_load.specs.Seen.{pairs_of, level_data}
+use Rattle.bind_load.specs.Inner.Seen.{pairs_of, level_data}
 use Rattle.bind_load.specs.FileMaps.{levels_below}
 use Rattle.bind_load.proofs.Levels.{include_step}
 use Rattle.bind_load.proofs.maps.add_include_map.Goals as goal

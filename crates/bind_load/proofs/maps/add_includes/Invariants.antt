@@ -1,7 +1,7 @@
 use Rattle.std.proofs.Common.{◌≡◌, ◌++◌, map, drop}
 use Rattle.std.specs.List.{flat_map}
 use Rattle.edt_base.specs.YamlData.{item_list}
-use Rattle.bind_load.specs.Seen.{items_of, map_data}
+use Rattle.bind_load.specs.Inner.Seen.{items_of, map_data}
 use Rattle.bind_load.specs.FileMaps.{include_maps}
 use Rattle.bind_load.proofs.maps.add_includes.Given as goal
 

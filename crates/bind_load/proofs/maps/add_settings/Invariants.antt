@@ -1,7 +1,7 @@
 use Rattle.std.proofs.Common.{◌≡◌, ◌++◌, map, drop}
 use Rattle.std.specs.List.{flat_map}
 use Rattle.edt_base.specs.YamlData.{pair_list}
-use Rattle.bind_load.specs.Seen.{pairs_of, map_data}
+use Rattle.bind_load.specs.Inner.Seen.{pairs_of, map_data}
 use Rattle.bind_load.specs.FileMaps.{settings_map}
 use Rattle.bind_load.proofs.maps.add_settings.Given as goal
 

@@ -1,5 +1,5 @@
 use Rattle.std.proofs.Common.{◌≡◌, ◌++◌, map, length}
-use Rattle.bind_load.specs.Seen.{level_data, levels_from}
+use Rattle.bind_load.specs.Inner.Seen.{level_data, levels_from}
 use Rattle.bind_load.proofs.maps.levels.Given as goal
 
 abbrev pub invariant-loop-next : goal.invariant-loop-next

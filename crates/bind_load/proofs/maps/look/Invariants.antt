@@ -1,6 +1,6 @@
 use Rattle.std.proofs.Common.{◌≡◌, drop}
 use Rattle.edt_base.specs.YamlData.{entry_of}
-use Rattle.bind_load.specs.Seen.{pairs_of}
+use Rattle.bind_load.specs.Inner.Seen.{pairs_of}
 use Rattle.bind_load.proofs.maps.look.Given as goal
 
 abbrev pub invariant-loop-name : goal.invariant-loop-name

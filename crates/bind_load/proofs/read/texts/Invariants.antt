@@ -1,7 +1,7 @@
 use Rattle.std.proofs.Common.{◌≡◌, ◌++◌, drop}
 use Rattle.std.specs.List.{flat_map}
 use Rattle.edt_base.specs.YamlData.{item_list}
-use Rattle.bind_load.specs.Seen.{items_of}
+use Rattle.bind_load.specs.Inner.Seen.{items_of}
 use Rattle.bind_load.specs.RecordOf.{one_text}
 use Rattle.bind_load.proofs.read.texts.Given as goal
 

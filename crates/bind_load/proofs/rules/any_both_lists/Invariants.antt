@@ -1,6 +1,6 @@
 use Rattle.std.proofs.Common.{◌≡◌, map, drop}
 use Rattle.std.specs.List.{list_any}
-use Rattle.bind_load.specs.Seen.{map_data}
+use Rattle.bind_load.specs.Inner.Seen.{map_data}
 use Rattle.bind_load.specs.Rules.{has_both_lists}
 use Rattle.bind_load.proofs.rules.any_both_lists.Given as goal
 

@@ -1,7 +1,7 @@
 use Rattle.std.proofs.Common.{◌≡◌, ℕ, List, drop, is_none}
 use Rattle.std.specs.List.{list_any}
 use Rattle.edt_base.specs.YamlData.{Value, pair_list}
-use Rattle.bind_load.specs.Seen.{pairs_of}
+use Rattle.bind_load.specs.Inner.Seen.{pairs_of}
 use Rattle.bind_load.specs.Forms.{form_of}
 use Rattle.bind_load.proofs.rules.has_unknown_key.Given as goal
 

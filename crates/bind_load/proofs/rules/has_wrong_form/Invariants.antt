@@ -1,7 +1,7 @@
 use Rattle.std.proofs.Common.{◌≡◌, drop}
 use Rattle.std.specs.List.{list_any}
 use Rattle.edt_base.specs.YamlData.{pair_list}
-use Rattle.bind_load.specs.Seen.{pairs_of}
+use Rattle.bind_load.specs.Inner.Seen.{pairs_of}
 use Rattle.bind_load.specs.Rules.{has_other_form}
 use Rattle.bind_load.proofs.rules.has_wrong_form.Given as goal
 

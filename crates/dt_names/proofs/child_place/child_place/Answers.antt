@@ -1,6 +1,6 @@
 use Rattle.std.proofs.Common.{sym, subst}
 use Rattle.dt_names.proofs.Places.{children_of_rise}
-use Rattle.dt_names.specs.Rising.{IsRisingFrom}
+use Rattle.dt_names.specs.Inner.Rising.{IsRisingFrom}
 use Rattle.dt_names.proofs.child_place.child_place.Goals as goal
 
 pub count_below-requires : goal.count_below-requires

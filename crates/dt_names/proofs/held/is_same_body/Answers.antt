@@ -2,7 +2,7 @@ use Rattle.std.proofs.Common.{◌≡◌, sym, ap, ◌∙◌}
 use Rattle.dt_names.specs.Clash.{SaidData}
 use Rattle.dt_names.specs.Facts.{visits}
 use Rattle.dt_names.specs.Pieces.{spells}
-use Rattle.dt_names.specs.Rows.{body_pieces, things_at}
+use Rattle.dt_names.specs.Inner.Rows.{body_pieces, things_at}
 use Rattle.dt_names.specs.declared.piece.Params.{Params}
 use Rattle.dt_names.specs.declared.row.Body.{Body}
 use Rattle.dt_names.proofs.Same.{same_visits}

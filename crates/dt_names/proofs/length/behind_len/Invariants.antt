@@ -1,6 +1,6 @@
 use Rattle.std.proofs.Common.{◌≡◌, ◌+◌, ◌-◌, ◌^◌, ◌<◌, length, min}
-use Rattle.dt_names.specs.Left.{behind_id}
-use Rattle.dt_names.specs.Lengths.{spelled_size}
+use Rattle.dt_names.specs.Inner.Left.{behind_id}
+use Rattle.dt_names.specs.Inner.Lengths.{spelled_size}
 use Rattle.dt_names.proofs.length.behind_len.Given as goal
 
 abbrev pub invariant-loop-word : goal.invariant-loop-word

@@ -1,6 +1,6 @@
 use Rattle.std.proofs.Common.{◌≡◌, length}
 use Rattle.edt_base.specs.Nodes.{okay_of}
-use Rattle.dt_names.specs.Places.{places_in}
+use Rattle.dt_names.specs.Inner.Places.{places_in}
 use Rattle.dt_names.proofs.list.next_okay_place.Given as goal
 
 abbrev pub invariant-loop-place : goal.invariant-loop-place

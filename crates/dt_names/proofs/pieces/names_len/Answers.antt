@@ -1,5 +1,5 @@
 use Rattle.std.proofs.Common.{◌∷◌, []}
-use Rattle.dt_names.specs.Words.{piece_of}
+use Rattle.dt_names.specs.Inner.Words.{piece_of}
 use Rattle.dt_names.proofs.Lengths.{count_more, counted, piece_sized}
 use Rattle.dt_names.proofs.pieces.names_len.Goals as goal
 

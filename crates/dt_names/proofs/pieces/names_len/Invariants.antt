@@ -1,6 +1,6 @@
 use Rattle.std.proofs.Common.{◌≡◌, ◌+◌, ◌-◌, ◌^◌, ◌<◌, length, min}
-use Rattle.dt_names.specs.Ids.{id_left}
-use Rattle.dt_names.specs.Lengths.{spelled_size}
+use Rattle.dt_names.specs.Inner.Ids.{id_left}
+use Rattle.dt_names.specs.Inner.Lengths.{spelled_size}
 use Rattle.dt_names.proofs.pieces.names_len.Given as goal
 
 abbrev pub invariant-loop-piece : goal.invariant-loop-piece

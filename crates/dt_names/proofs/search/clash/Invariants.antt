@@ -1,6 +1,6 @@
 use Rattle.std.proofs.Common.{length}
 use Rattle.dt_names.specs.Facts.{facts}
-use Rattle.dt_names.specs.Scanned.{IsScanned}
+use Rattle.dt_names.specs.Inner.Scanned.{IsScanned}
 use Rattle.dt_names.proofs.search.clash.Given as goal
 
 abbrev pub invariant-loop-doubles : goal.invariant-loop-doubles

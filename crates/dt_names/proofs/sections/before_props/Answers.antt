@@ -1,5 +1,5 @@
 use Rattle.std.proofs.Common.{sym, subst, ◌∙◌}
-use Rattle.dt_names.specs.Keys.{GoOn}
+use Rattle.dt_names.specs.Inner.Keys.{GoOn}
 use Rattle.dt_names.proofs.Going.{head_goes_on}
 use Rattle.dt_names.proofs.sections.before_props.Goals as goal
 

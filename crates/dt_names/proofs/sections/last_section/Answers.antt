@@ -1,5 +1,5 @@
 use Rattle.std.proofs.Common.{◌≡◌, sym, []}
-use Rattle.dt_names.specs.Parts.{base_left, props_left}
+use Rattle.dt_names.specs.Inner.Parts.{base_left, props_left}
 use Rattle.dt_names.proofs.Stepped.{tree_last, past_props}
 use Rattle.dt_names.proofs.sections.last_section.Goals as goal
 

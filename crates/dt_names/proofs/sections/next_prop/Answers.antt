@@ -1,5 +1,5 @@
 use Rattle.std.proofs.Common.{sym, ◌∙◌}
-use Rattle.dt_names.specs.Parts.{base_left}
+use Rattle.dt_names.specs.Inner.Parts.{base_left}
 use Rattle.dt_names.proofs.Stepped.{prop_first, prop_base}
 use Rattle.dt_names.proofs.sections.next_prop.Goals as goal
 

@@ -1,6 +1,6 @@
 use Rattle.std.proofs.Common.{sym, subst, ◌∙◌}
 use Rattle.edt_base.specs.Nodes.{path_at}
-use Rattle.dt_names.specs.Keys.{GoOn}
+use Rattle.dt_names.specs.Inner.Keys.{GoOn}
 use Rattle.dt_names.proofs.Going.{props_go_on}
 use Rattle.dt_names.proofs.sections.on_prop.Goals as goal
 

@@ -1,6 +1,6 @@
 use Rattle.std.proofs.Common.{◌≡◌, vec_len}
 use Rattle.std.specs.Prelude.{reverse}
-use Rattle.dts_parse.specs.Machine.{climbed}
+use Rattle.dts_parse.specs.Inner.Machine.{climbed}
 use Rattle.dts_parse.proofs.frames.climb.Given as goal
 
 abbrev pub invariant-loop-frame : goal.invariant-loop-frame

@@ -1,5 +1,5 @@
 use Rattle.std.proofs.Common.{◌∙◌, sym}
-use Rattle.dts_parse.specs.Shown.{shown}
+use Rattle.dts_parse.specs.Inner.Shown.{shown}
 use Rattle.dts_parse.proofs.ReadLaws.{answered, first_last, first_lex, lies, stop_is, taken_is}
 use Rattle.dts_parse.proofs.source.read.Goals as goal
 

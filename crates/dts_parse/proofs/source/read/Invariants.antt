@@ -1,6 +1,6 @@
 use Rattle.std.proofs.Common.{length}
-use Rattle.dts_parse.specs.Outcome.{IsSoFar}
-use Rattle.dts_parse.specs.Shown.{shown}
+use Rattle.dts_parse.specs.Inner.Outcome.{IsSoFar}
+use Rattle.dts_parse.specs.Inner.Shown.{shown}
 use Rattle.dts_parse.proofs.source.read.Given as goal
 
 abbrev pub invariant-tokens : goal.invariant-tokens

@@ -1,7 +1,7 @@
 use Rattle.std.proofs.Common.{◌≡◌, [], List, ℕ, Bool, ◌∙◌, rules, refl, subst, sym, true, false}
 use Rattle.std.proofs.lemmas.Bool.{false≢true}
 use Rattle.edt_base.specs.Outside.{SinkSeen, Wrote}
-use Rattle.head_write.specs.Put.{Put}
+use Rattle.head_write.specs.Inner.Put.{Put}
 use Rattle.head_write.proofs.Puts.{put_then, not_done, put_stops, flush_puts, write_puts, failed}
 use Rattle.head_write.proofs.block.put_behind_all.Goals as goal
 

@@ -1,7 +1,7 @@
 use Rattle.std.proofs.Common.{◌≡◌, length}
 use Rattle.edt_base.specs.YamlData.{value_of}
 use Rattle.yaml_profile.specs.Fronts.{all_closed}
-use Rattle.yaml_profile.specs.Shown.{frames_of}
+use Rattle.yaml_profile.specs.Inner.Shown.{frames_of}
 use Rattle.yaml_profile.proofs.file.close_all.Given as goal
 
 abbrev pub invariant-loop-frame : goal.invariant-loop-frame

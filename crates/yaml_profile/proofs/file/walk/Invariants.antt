@@ -1,6 +1,6 @@
 use Rattle.std.proofs.Common.{◌≡◌, length}
 use Rattle.yaml_profile.specs.Reading.{at_start, walk}
-use Rattle.yaml_profile.specs.Shown.{shown}
+use Rattle.yaml_profile.specs.Inner.Shown.{shown}
 use Rattle.yaml_profile.proofs.file.walk.Given as goal
 
 abbrev pub invariant-loop-here : goal.invariant-loop-here

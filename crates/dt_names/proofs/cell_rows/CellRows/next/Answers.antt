@@ -2,7 +2,7 @@ use Rattle.std.proofs.Common.{◌≡◌, ℕ, List, [], ◌∷◌, ◌++◌, ref
 use Rattle.std.specs.List.{flat_map}
 use Rattle.edt_base.specs.Nodes.{path_at}
 use Rattle.dt_names.specs.Facts.{FactData, cell_facts}
-use Rattle.dt_names.specs.Rows.{at_pieces}
+use Rattle.dt_names.specs.Inner.Rows.{at_pieces}
 use Rattle.dt_names.proofs.cell_rows.CellRows.next.Goals as goal
 
 no_cells : (cells : List (List ℕ × ℕ)) → length cells ≡ 0 → cells ≡ []

@@ -1,6 +1,6 @@
 use Rattle.std.proofs.Common.{◌≡◌, ◌+◌, ◌++◌, length}
 use Rattle.edt_base.specs.Nodes.{path_at}
-use Rattle.dt_names.specs.Elems.{elements_left}
+use Rattle.dt_names.specs.Inner.Elems.{elements_left}
 use Rattle.dt_names.specs.Facts.{each, elem_lines}
 use Rattle.dt_names.proofs.elem_rows.ElemRows.next.Given as goal
 

@@ -1,8 +1,8 @@
 use Rattle.std.proofs.Common.{◌≡◌, ◌++◌, length}
-use Rattle.dt_names.specs.Keys.{Keeps}
-use Rattle.dt_names.specs.Kept.{AreKept, HasEntry}
-use Rattle.dt_names.specs.Parts.{sections_left}
-use Rattle.dt_names.specs.Sections.{joined}
+use Rattle.dt_names.specs.Inner.Keys.{Keeps}
+use Rattle.dt_names.specs.Inner.Kept.{AreKept, HasEntry}
+use Rattle.dt_names.specs.Inner.Parts.{sections_left}
+use Rattle.dt_names.specs.Inner.Sections.{joined}
 use Rattle.dt_names.proofs.labels.Labels.next.Given as goal
 
 abbrev pub invariant-loop-known : goal.invariant-loop-known

@@ -1,7 +1,7 @@
 use Rattle.std.proofs.Common.{◌≡◌, length}
 use Rattle.edt_base.specs.YamlData.{value_of}
 use Rattle.yaml_profile.specs.Layout.{settle}
-use Rattle.yaml_profile.specs.Shown.{frames_of}
+use Rattle.yaml_profile.specs.Inner.Shown.{frames_of}
 use Rattle.yaml_profile.proofs.reader.Reader.settle.Given as goal
 
 abbrev pub invariant-loop-frame : goal.invariant-loop-frame

@@ -1,8 +1,8 @@
 -- What is left of a name behind its id, in pieces.
 use Rattle.std.specs.Prelude.{◌++◌, List, [], ◌∷◌, codes}
-use Rattle.dt_names.specs.Lists.{listed}
+use Rattle.dt_names.specs.Inner.Lists.{listed}
 use Rattle.dt_names.specs.Pieces.{PieceData, lit, form, num}
-use Rattle.dt_names.specs.Rows.{at_pieces, ending_pieces}
+use Rattle.dt_names.specs.Inner.Rows.{at_pieces, ending_pieces}
 use Rattle.dt_names.specs.declared.left.AtLeft.{AtLeft}
 use Rattle.dt_names.specs.declared.left.AtLeft.TheVariants as at
 use Rattle.dt_names.specs.declared.left.EndingLeft.{EndingLeft}

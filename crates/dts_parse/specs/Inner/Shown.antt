@@ -2,7 +2,7 @@
 use Rattle.std.specs.Prelude.{◌≡◌, Result, Ok, Err, map}
 use Rattle.std.specs.Prelude.{reverse}
 use Rattle.dts_parse.specs.ActForm.{part_data}
-use Rattle.dts_parse.specs.Machine.{Shape, Step}
+use Rattle.dts_parse.specs.Inner.Machine.{Shape, Step}
 use Rattle.dts_parse.specs.declared.parser.Parser.{Parser}
 use Rattle.dts_parse.specs.declared.stop.Stop.{Stop}
 use Rattle.dts_parse.specs.declared.stop.Stop.TheVariants as stops

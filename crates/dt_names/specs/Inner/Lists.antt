@@ -4,8 +4,8 @@ use Rattle.std.specs.List.{flat_map}
 use Rattle.dt_names.specs.Facts.{id_at, id_pieces, elem_visit, visit, visits, visit_end, between, ords_body, braces}
 use Rattle.edt_base.specs.Nodes.{okay_of}
 use Rattle.dt_names.specs.Pieces.{PieceData, lit, form, str, num}
-use Rattle.dt_names.specs.Places.{places_in}
-use Rattle.dt_names.specs.Words.{piece_of}
+use Rattle.dt_names.specs.Inner.Places.{places_in}
+use Rattle.dt_names.specs.Inner.Words.{piece_of}
 use Rattle.dt_names.specs.declared.piece.Params.{Params}
 use Rattle.dt_names.specs.declared.list.Listed.{Listed}
 use Rattle.dt_names.specs.declared.list.Listed.TheVariants as list
@@ -56,7 +56,8 @@ abbrev pub listed : Listed → List PieceData
 listed list.Nothing = []
 listed (list.One p) = piece_of p ∷ []
 listed (list.Visits ps things) = visits ps (things_of things)
-listed (list.Open ps t things) = lit (codes "fn(") ∷ ((thing_pieces t ++ lit (visit_end ps) ∷ []) ++ more_visits ps (things_of things))
+listed (list.Open ps t things) = lit (codes "fn(") ∷ ((thing_pieces t ++ lit (visit_end ps) ∷ [])
+    ++ more_visits ps (things_of things))
 listed (list.Within ps t things) = (thing_pieces t ++ lit (visit_end ps) ∷ []) ++ more_visits ps (things_of things)
 listed (list.MoreVisits ps things) = more_visits ps (things_of things)
 listed (list.Ords os) = ords_body os.now

@@ -8,7 +8,8 @@ Passes old new held left text = (gone : List ℕ) × (held ++ text ≡ gone ++ l
 
 -- all of the text was put, or the count rose and a front of what was held and the text was taken
 pub record Put (old new : SinkSeen) (held left text : List ℕ) (done : Bool) : Type 0 where
-  pub taken : MatchBool done (Passes old new held left text) (Rose old.faults new.faults × GainsPrefix old new (held ++ text))
+  pub taken : MatchBool done (Passes old new held left text) (Rose old.faults new.faults
+      × GainsPrefix old new (held ++ text))
   pub count : old.faults ≤ new.faults
   pub sure : length held + length text ≤ old.room → IsTrue done × (new.faults ≡ old.faults)
       × (old.room + length left ≤ new.room + (length held + length text))

@@ -5,9 +5,9 @@ use Rattle.edt_base.specs.Nodes.{path_at}
 use Rattle.edt_base.specs.NodeData.{NodeData}
 use Rattle.edt_base.specs.PropData.{PropData}
 use Rattle.dt_names.specs.Facts.{FactData, each, id_pieces, id_at, prop_facts}
-use Rattle.dt_names.specs.Keys.{AreOfProp, GoOn}
+use Rattle.dt_names.specs.Inner.Keys.{AreOfProp, GoOn}
 use Rattle.dt_names.specs.Pieces.{PieceData}
-use Rattle.dt_names.specs.Sections.{AreBased, node_sections, tree_section}
+use Rattle.dt_names.specs.Inner.Sections.{AreBased, node_sections, tree_section}
 use Rattle.dt_names.specs.declared.section.Kind.{Kind}
 use Rattle.dt_names.specs.declared.section.Kind.TheVariants as kind
 use Rattle.dt_names.specs.declared.section.Of.{Of}

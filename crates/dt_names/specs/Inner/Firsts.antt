@@ -19,6 +19,7 @@ pub record IsHeld (keys : List Key) (held : List SaidData) (key : Key) (p : Said
 
 -- a definition's key was looked at, with what it says
 abbrev pub HasMet : (keys new_keys : List Key) → (held new_held : List SaidData) → Key → SaidData → Met → Type 0
-HasMet keys new_keys held new_held key p met.New = IsNew keys key × (new_keys ≡ keys ++ key ∷ []) × (new_held ≡ held ++ p ∷ [])
+HasMet keys new_keys held new_held key p met.New = IsNew keys key × (new_keys ≡ keys ++ key ∷ [])
+    × (new_held ≡ held ++ p ∷ [])
 HasMet keys new_keys held new_held key p met.Same = (new_keys ≡ keys) × (new_held ≡ held) × IsHeld keys held key p true
 HasMet keys new_keys held new_held key p met.Other = IsHeld keys held key p false

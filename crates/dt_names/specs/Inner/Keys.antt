@@ -1,4 +1,5 @@
--- A name in four texts: the id, the property, what tells an entry, and what is left; and their numbers in a list of texts.
+-- A name in four texts: the id, the property, what tells an entry, and what is left; and their numbers in a list of
+-- texts.
 use Rattle.std.specs.Prelude.{◌≡◌, ℕ, Bool, true, false, List, [], ◌∷◌, Some, codes, take, drop, slice_get, if◌then◌else◌}
 use Rattle.std.specs.Str.{bytes_eq}
 use Rattle.edt_base.specs.NodeData.{NodeData}
@@ -20,7 +21,8 @@ IsParted rest prop last = (is_of_prop rest ≡ true) × (take 2 rest ≡ prop) �
 abbrev pub behind_prop : List PieceData → List PieceData
 behind_prop rest = if is_of_prop rest then drop 2 rest else rest
 
--- the texts that a name is spelled with: that of the id, that of the property where it speaks of one, that of the two pieces behind these, which tell an entry where it speaks of one, and that of the others
+-- the texts that a name is spelled with: that of the id, that of the property where it speaks of one, that of the two
+-- pieces behind these, which tell an entry where it speaks of one, and that of the others
 pub record NameTexts : Type 0 where
   pub base : List ℕ
   pub prop : List ℕ
@@ -37,7 +39,8 @@ texts_of f = record {
 
 -- a key has the numbers of a name's texts
 abbrev pub Tells : List (List ℕ) → Key → NameTexts → Type 0
-Tells texts key t = (slice_get texts key.base ≡ Some t.base) × (slice_get texts key.prop ≡ Some t.prop) × (slice_get texts key.entry ≡ Some t.entry) × (slice_get texts key.last ≡ Some t.last)
+Tells texts key t = (slice_get texts key.base ≡ Some t.base) × (slice_get texts key.prop ≡ Some t.prop)
+    × (slice_get texts key.entry ≡ Some t.entry) × (slice_get texts key.last ≡ Some t.last)
 
 -- no text stands twice
 abbrev pub AreDistinct : List (List ℕ) → Type 0
@@ -54,7 +57,8 @@ AreOfProp name (f ∷ fs) = (f.rest ≡ lit (codes "_P_") ∷ form name ∷ drop
 
 -- a property's definitions speak of it
 abbrev pub PropertiesNameThem : Type 0
-PropertiesNameThem = (nodes : List NodeData) (n : ℕ) (path : List ℕ) (p : PropData) → AreOfProp p.name (shown_facts nodes n path p) × AreOfProp p.name (prop_facts nodes n path p)
+PropertiesNameThem = (nodes : List NodeData) (n : ℕ) (path : List ℕ) (p : PropData)
+    → AreOfProp p.name (shown_facts nodes n path p) × AreOfProp p.name (prop_facts nodes n path p)
 
 -- of these definitions each that goes on has the entry of the one before it, and the first this one
 abbrev pub GoOnFrom : List ℕ → List FactData → Type 0

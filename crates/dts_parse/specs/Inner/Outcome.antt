@@ -1,6 +1,6 @@
 -- What reading a source ends with.
 use Rattle.std.specs.Prelude.{◌≡◌, ℕ, Bool, List, Ok}
-use Rattle.dts_parse.specs.Machine.{Shape, walk}
+use Rattle.dts_parse.specs.Inner.Machine.{Shape, walk}
 use Rattle.dts_parse.specs.Source.{AreTokens, BreaksNone, IsFirst, IsScript}
 use Rattle.dts_parse.specs.StmtData.{StmtData}
 use Rattle.dts_parse.specs.Token.{Token}

@@ -2,7 +2,7 @@
 use Rattle.std.specs.Prelude.{ℕ, List, [], ◌∷◌, Option, Some, None, length, map}
 use Rattle.dt_names.specs.Facts.{Element, an_item, a_node, an_entry}
 use Rattle.dt_names.specs.Pieces.{str, num}
-use Rattle.dt_names.specs.Words.{piece_of}
+use Rattle.dt_names.specs.Inner.Words.{piece_of}
 use Rattle.dt_names.specs.declared.elems.Elem.{Elem}
 use Rattle.dt_names.specs.declared.elems.Elem.TheVariants as elem
 use Rattle.dt_names.specs.declared.elems.Elems.{Elems}

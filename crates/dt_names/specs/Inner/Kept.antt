@@ -1,10 +1,10 @@
 -- What the walk over the definitions keeps of the numbers of their names' texts.
 use Rattle.std.specs.Prelude.{◌≡◌, ℕ, List, [], ◌∷◌, Option, Some, IfSome, codes, drop, slice_get}
 use Rattle.dt_names.specs.Facts.{FactData}
-use Rattle.dt_names.specs.Keys.{AreDistinct, GoOn, GoOnFrom, Keeps, Tells, texts_of}
-use Rattle.dt_names.specs.Parts.{SpeakOf, base_left, sections_left}
+use Rattle.dt_names.specs.Inner.Keys.{AreDistinct, GoOn, GoOnFrom, Keeps, Tells, texts_of}
+use Rattle.dt_names.specs.Inner.Parts.{SpeakOf, base_left, sections_left}
 use Rattle.dt_names.specs.Pieces.{lit, form, spells}
-use Rattle.dt_names.specs.Sections.{AreBased}
+use Rattle.dt_names.specs.Inner.Sections.{AreBased}
 use Rattle.dt_names.specs.declared.key.Key.{Key}
 use Rattle.dt_names.specs.declared.labels.Here.{Here}
 use Rattle.dt_names.specs.declared.section.Of.{Of}
@@ -23,7 +23,8 @@ HasProp texts prop _ = Unit {0}
 -- the same of a definition that speaks of it
 abbrev pub SharesProp : List (List ℕ) → ℕ → Of → FactData → Type 0
 SharesProp texts prop (of.Prop name) f =
-    (f.rest ≡ lit (codes "_P_") ∷ form name.now ∷ drop 2 f.rest) × (slice_get texts prop ≡ Some (spells (lit (codes "_P_") ∷ form name.now ∷ [])))
+    (f.rest ≡ lit (codes "_P_") ∷ form name.now ∷ drop 2 f.rest)
+    × (slice_get texts prop ≡ Some (spells (lit (codes "_P_") ∷ form name.now ∷ [])))
 SharesProp texts prop _ f = Unit {0}
 
 -- the number, where there is one, is that of the entry that the definition before these is on

@@ -4,9 +4,9 @@ use Rattle.std.specs.List.{range_with_len}
 use Rattle.edt_base.specs.Nodes.{path_at, okay_of}
 use Rattle.edt_base.specs.NodeData.{NodeData}
 use Rattle.dt_names.specs.Facts.{FactData, id_at, ords_body, braces, elem_visit, fact, visits, titled}
-use Rattle.dt_names.specs.Lists.{values_of}
+use Rattle.dt_names.specs.Inner.Lists.{values_of}
 use Rattle.dt_names.specs.Pieces.{PieceData, lit, form, num}
-use Rattle.dt_names.specs.Words.{piece_of}
+use Rattle.dt_names.specs.Inner.Words.{piece_of}
 use Rattle.dt_names.specs.declared.piece.Params.{Params}
 use Rattle.dt_names.specs.declared.piece.Params.TheVariants as params
 use Rattle.dt_names.specs.declared.piece.Piece.TheVariants as piece
@@ -28,7 +28,8 @@ at_pieces (at.Nth mark i) = lit mark.now ∷ num i ∷ []
 at_pieces (at.Named mark name) = lit mark.now ∷ form name.text.now ∷ []
 at_pieces (at.Prop name) = lit (codes "_P_") ∷ form name.text.now ∷ []
 at_pieces (at.Elem name i) = lit (codes "_P_") ∷ form name.text.now ∷ lit (codes "_IDX_") ∷ num i ∷ []
-at_pieces (at.Entry name entry) = lit (codes "_P_") ∷ form name.text.now ∷ lit (codes "_NAME_") ∷ form entry.text.now ∷ []
+at_pieces (at.Entry name entry) =
+    lit (codes "_P_") ∷ form name.text.now ∷ lit (codes "_NAME_") ∷ form entry.text.now ∷ []
 
 -- how a name ends
 abbrev pub ending_pieces : Ending → List PieceData
@@ -61,7 +62,8 @@ body_pieces nodes n ps (body.Visits things) = visits ps (things_at nodes n thing
 
 -- the row of a definition of a node
 abbrev pub walk_row : ℕ → At → Ending → Params → Body → Row
-walk_row n at ending ps body = record { owner = n; of_tree = false; goes_on = false; at = at; ending = ending; params = ps; body = body }
+walk_row n at ending ps body =
+    record { owner = n; of_tree = false; goes_on = false; at = at; ending = ending; params = ps; body = body }
 
 -- that of one without parameters
 abbrev pub plain_row : ℕ → At → Ending → Body → Row
@@ -77,7 +79,8 @@ cell_row n at ending k = record (number_row n at ending k) { goes_on = true }
 
 -- the row of a definition of the tree, which belongs to the node n
 abbrev pub tree_row : ℕ → At → Ending → Params → Body → Row
-tree_row n at ending ps body = record { owner = n; of_tree = true; goes_on = false; at = at; ending = ending; params = ps; body = body }
+tree_row n at ending ps body =
+    record { owner = n; of_tree = true; goes_on = false; at = at; ending = ending; params = ps; body = body }
 
 -- the definition that a row is
 abbrev pub fact_of : List NodeData → Row → FactData
@@ -109,7 +112,10 @@ with_heading heading f = record f { heading = Some heading }
 -- the walks over the okay instances of a compatible string, the last of a group's definitions
 abbrev pub okay_walks : List NodeData → ℕ → List ℕ → List ℕ → ℕ → List FactData
 okay_walks nodes first compat ids okay =
-    fact first (lit (codes "DT_FOREACH_OKAY_") ∷ form compat ∷ []) params.Fn (visits params.Fn (map (id_at nodes) (take okay ids)))
-    ∷ fact first (lit (codes "DT_FOREACH_OKAY_VARGS_") ∷ form compat ∷ []) params.FnVargs (visits params.FnVargs (map (id_at nodes) (take okay ids)))
-    ∷ fact first (lit (codes "DT_FOREACH_OKAY_INST_") ∷ form compat ∷ []) params.Fn (visits params.Fn (map (λ k. num k ∷ []) (range_with_len 0 okay)))
+    fact first (lit (codes "DT_FOREACH_OKAY_") ∷ form compat ∷ []) params.Fn
+    (visits params.Fn (map (id_at nodes) (take okay ids)))
+    ∷ fact first (lit (codes "DT_FOREACH_OKAY_VARGS_") ∷ form compat ∷ []) params.FnVargs
+    (visits params.FnVargs (map (id_at nodes) (take okay ids)))
+    ∷ fact first (lit (codes "DT_FOREACH_OKAY_INST_") ∷ form compat ∷ []) params.Fn (visits params.Fn (map
+    (λ k. num k ∷ []) (range_with_len 0 okay)))
     ∷ []

@@ -6,7 +6,7 @@ use Rattle.dts_parse.specs.Fronts.{is_opening, may_name}
 use Rattle.dts_parse.specs.Statements.{Place, below, first_stage, head, is_empty, omits, tail, takes_inner, takes_top, takes_version}
 use Rattle.dts_parse.specs.StmtData.{PartData, StmtData, Plain, Path, Open, Close, Label, Assign, DelProp, DelNode, Omit, stmt}
 use Rattle.dts_parse.specs.Texts.{target_of, text_bytes, width_of}
-use Rattle.dts_parse.specs.Token.{Spot, Token, bin_of, is_node_form, is_prop_form, op_level, un_of}
+use Rattle.dts_parse.specs.Token.{Spot, Token, bin_of, is_include, is_node_form, is_prop_form, op_level, un_of}
 use Rattle.dts_parse.specs.Values.{bytes_with, cells_with, list_data, may_close, misfits}
 use Rattle.dts_parse.specs.Worth.{bin, cond, un}
 use Rattle.dts_parse.specs.declared.expr.BinOp.{BinOp}
@@ -101,32 +101,51 @@ at_opening s p opening =
 abbrev pub at_mark : Shape → Spot → Step
 at_mark s p =
     if takes_inner (place_now s) then Ok (record s { marks = s.marks ++ p.at ∷ [] })
-    else if is_bare s && takes_top (place_now s) then Ok (record s { mode = mode.Directive wanted.OmittedRef; begin = p.at })
+    else if is_bare s && takes_top (place_now s) then Ok
+    (record s { mode = mode.Directive wanted.OmittedRef; begin = p.at })
     else refused p
 
 abbrev pub at_close : Shape → Spot → Step
 at_close s p =
     if is_bare s && takes_inner (place_now s)
-    then Ok (record s { mode = mode.Ending; stage = stage.Rest; depth = below s.depth; opened = tail s.opened; out = (s.out ++ stmt p.at Close ∷ []) ++ head s.opened })
+    then Ok (record s {
+      mode = mode.Ending;
+      stage = stage.Rest;
+      depth = below s.depth;
+      opened = tail s.opened;
+      out =
+          (s.out ++ stmt p.at Close ∷ []) ++ head s.opened;
+    })
     else refused p
 
 abbrev pub at_deletion : Shape → Spot → Step
 at_deletion s p =
-    if is_bare s && takes_inner (place_now s) then Ok (record s { mode = mode.Directive wanted.DeletedChild; begin = p.at })
-    else if is_bare s && takes_top (place_now s) then Ok (record s { mode = mode.Directive wanted.DeletedRef; begin = p.at })
+    if is_bare s && takes_inner (place_now s) then Ok
+    (record s { mode = mode.Directive wanted.DeletedChild; begin = p.at })
+    else if is_bare s && takes_top (place_now s) then Ok
+    (record s { mode = mode.Directive wanted.DeletedRef; begin = p.at })
     else refused p
 
 abbrev pub in_body : Shape → Spot → Sign → Step
-in_body s p (sign.Name f) = if may_name (place_now s) (is_empty s.marks) f then Ok (record s { mode = mode.Named f; name = Some p }) else refused p
+in_body s p (sign.Name f) =
+    if may_name (place_now s) (is_empty s.marks) f then Ok (record s { mode = mode.Named f; name = Some p }) else
+    refused p
 in_body s p sign.Slash = at_opening s p (stmt p.at (Open target.Root))
 in_body s p sign.Ref = at_opening s p (stmt p.at (Open (target_of p.text)))
 in_body s p sign.Omit = at_mark s p
 in_body s p sign.RightBrace = at_close s p
-in_body s p sign.Version = if is_bare s && takes_version (place_now s) then Ok (record s { mode = mode.Ending; stage = stage.Versions }) else refused p
-in_body s p sign.Plugin = if is_bare s && takes_top (place_now s) then Ok (record s { mode = mode.Ending; stage = stage.Rest }) else refused p
-in_body s p sign.Reserve = if is_bare s && takes_top (place_now s) then Ok (record s { mode = mode.Directive wanted.FirstNumber; begin = p.at }) else refused p
+in_body s p sign.Version =
+    if is_bare s && takes_version (place_now s) then Ok (record s { mode = mode.Ending; stage = stage.Versions }) else
+    refused p
+in_body s p sign.Plugin =
+    if is_bare s && takes_top (place_now s) then Ok (record s { mode = mode.Ending; stage = stage.Rest }) else refused p
+in_body s p sign.Reserve =
+    if is_bare s && takes_top (place_now s) then Ok
+    (record s { mode = mode.Directive wanted.FirstNumber; begin = p.at }) else refused p
 in_body s p sign.DeleteNode = at_deletion s p
-in_body s p sign.DeleteProp = if is_bare s && takes_inner (place_now s) then Ok (record s { mode = mode.Directive wanted.DeletedProp; begin = p.at }) else refused p
+in_body s p sign.DeleteProp =
+    if is_bare s && takes_inner (place_now s) then Ok
+    (record s { mode = mode.Directive wanted.DeletedProp; begin = p.at }) else refused p
 in_body s p _ = refused p
 
 -- a property stands where no mark is
@@ -134,12 +153,26 @@ abbrev pub is_prop : Shape → Form → Bool
 is_prop s f = takes_inner (place_now s) && is_empty s.marks && is_prop_form f
 
 abbrev pub at_label : Form → Shape → Spot → Spot → Step
-at_label form.Label s p n = Ok (record s { mode = mode.Body; name = None; labels = s.labels ++ stmt n.at (Label n.text) ∷ [] })
+at_label form.Label s p n = Ok (record s {
+  mode = mode.Body;
+  name = None;
+  labels = s.labels
+      ++ stmt n.at (Label n.text) ∷ [];
+})
 at_label _ s p n = refused p
 
 abbrev pub at_flag : Form → Shape → Spot → Spot → Step
 at_flag f s p n =
-    if is_prop s f then Ok (record s { mode = mode.Body; stage = stage.Rest; name = None; labels = []; marks = []; out = s.out ++ stmt n.at (Assign n.text []) ∷ [] })
+    if is_prop s f then Ok
+    (record s {
+      mode = mode.Body;
+      stage = stage.Rest;
+      name = None;
+      labels = [];
+      marks = [];
+      out = s.out ++ stmt
+          n.at (Assign n.text []) ∷ [];
+    })
     else refused p
 
 abbrev pub at_child : Form → Shape → Spot → Spot → Step
@@ -160,7 +193,8 @@ at_child f s p n =
 abbrev pub behind_name : Form → Shape → Spot → Spot → Sign → Step
 behind_name f s p n sign.Colon = at_label f s p n
 behind_name f s p n sign.Semicolon = at_flag f s p n
-behind_name f s p n sign.Equal = if is_prop s f then Ok (record s { mode = mode.Value; labels = []; marks = [] }) else refused p
+behind_name f s p n sign.Equal = if is_prop s f then Ok (record s { mode = mode.Value; labels = []; marks = [] })
+    else refused p
 behind_name f s p n sign.LeftBrace = at_child f s p n
 behind_name f s p n _ = refused p
 
@@ -168,7 +202,8 @@ abbrev pub named : Form → Shape → Spot → Sign → Step
 named f s p t = elim s.name [ None ↦ refused p | Some n ↦ behind_name f s p n t ]
 
 abbrev pub at_brace : Shape → Spot → Sign → Step
-at_brace s p sign.LeftBrace = Ok (record s { mode = mode.Body; stage = stage.Rest; depth = suc s.depth; opened = [] ∷ s.opened })
+at_brace s p sign.LeftBrace =
+    Ok (record s { mode = mode.Body; stage = stage.Rest; depth = suc s.depth; opened = [] ∷ s.opened })
 at_brace s p _ = refused p
 
 abbrev pub at_end : Shape → Spot → Sign → Step
@@ -186,8 +221,10 @@ directive wanted.SecondNumber s p (sign.Number n) = complete s s.out
 directive wanted.SecondNumber s p sign.Huge = complete s s.out
 directive wanted.DeletedRef s p sign.Ref = complete s (s.out ++ stmt p.at (DelNode (target_of p.text)) ∷ [])
 directive wanted.OmittedRef s p sign.Ref = complete s (s.out ++ stmt p.at (Omit (target_of p.text)) ∷ [])
-directive wanted.DeletedChild s p (sign.Name f) = if is_node_form f then complete s (s.out ++ stmt s.begin (DelNode (target.Child p.text)) ∷ []) else refused p
-directive wanted.DeletedProp s p (sign.Name f) = if is_prop_form f then complete s (s.out ++ stmt s.begin (DelProp p.text) ∷ []) else refused p
+directive wanted.DeletedChild s p (sign.Name f) = if is_node_form f then complete s (s.out
+    ++ stmt s.begin (DelNode (target.Child p.text)) ∷ []) else refused p
+directive wanted.DeletedProp s p (sign.Name f) = if is_prop_form f then complete s (s.out
+    ++ stmt s.begin (DelProp p.text) ∷ []) else refused p
 directive _ s p _ = refused p
 
 -- ---- values
@@ -211,7 +248,14 @@ in_value s p _ = refused p
 abbrev pub assigned : Shape → Spot → Step
 assigned s p = elim s.name [
   | None ↦ refused p
-  | Some n ↦ Ok (record s { mode = mode.Body; stage = stage.Rest; name = None; parts = []; out = s.out ++ stmt n.at (Assign n.text s.parts) ∷ [] })
+  | Some n ↦ Ok (record s {
+    mode = mode.Body;
+    stage = stage.Rest;
+    name = None;
+    parts = [];
+    out = s.out
+        ++ stmt n.at (Assign n.text s.parts) ∷ [];
+  })
 ]
 
 abbrev pub behind_part : Shape → Spot → Sign → Step
@@ -236,15 +280,31 @@ behind_width w s p _ = refused p
 abbrev pub put : Width → Bool → Option ℕ → ℕ → Shape → Step
 put w huge n at s =
     if misfits w huge n then Err (record { rule = S5; at = at })
-    else Ok (record s { mode = mode.Cells w listing.Elements; cells = cells_with w n s.cells; bytes = bytes_with w n s.bytes })
+    else Ok (record s {
+      mode = mode.Cells w listing.Elements;
+      cells = cells_with w n s.cells;
+      bytes = bytes_with w n
+          s.bytes;
+    })
 
 abbrev pub at_ref : Width → Shape → Spot → Step
-at_ref Bits32 s p = Ok (record s { mode = mode.Cells Bits32 listing.Elements; cells = s.cells ++ cell.Ref (target_of p.text) ∷ [] })
+at_ref Bits32 s p = Ok (record s {
+  mode = mode.Cells Bits32 listing.Elements;
+  cells = s.cells
+      ++ cell.Ref (target_of p.text) ∷ [];
+})
 at_ref _ s p = refused p
 
 abbrev pub closed_list : Width → Listing → Shape → Spot → Step
 closed_list w l s p =
-    if may_close l then Ok (record s { mode = mode.Part; depth = below s.depth; parts = s.parts ++ list_data w s.cells s.bytes ∷ []; cells = []; bytes = [] })
+    if may_close l then Ok (record s {
+      mode = mode.Part;
+      depth = below s.depth;
+      parts = s.parts
+          ++ list_data w s.cells s.bytes ∷ [];
+      cells = [];
+      bytes = [];
+    })
     else refused p
 
 abbrev pub in_cells : Width → Listing → Shape → Spot → Sign → Step
@@ -259,7 +319,13 @@ in_cells w l s p _ = refused p
 
 abbrev pub closed_pairs : Listing → Shape → Spot → Step
 closed_pairs l s p =
-    if may_close l then Ok (record s { mode = mode.Part; depth = below s.depth; parts = s.parts ++ Plain (record { kind = kind.Hex; bytes = s.bytes }) ∷ []; bytes = [] })
+    if may_close l then Ok (record s {
+      mode = mode.Part;
+      depth = below s.depth;
+      parts = s.parts
+          ++ Plain (record { kind = kind.Hex; bytes = s.bytes }) ∷ [];
+      bytes = [];
+    })
     else refused p
 
 abbrev pub in_pairs : Listing → Shape → Spot → Sign → Step
@@ -310,12 +376,15 @@ abbrev pub before_operand : Width → Shape → Spot → Sign → Step
 before_operand w s p (sign.Number n) = operand_is w s s.huge (Some n)
 before_operand w s p sign.Huge = operand_is w s true None
 before_operand w s p (sign.Char n) = operand_is w s s.huge (Some n)
-before_operand w s p sign.LeftRound = Ok (record s { depth = suc s.depth; long = more s.long; frames = frame.Round ∷ s.frames })
+before_operand w s p sign.LeftRound =
+    Ok (record s { depth = suc s.depth; long = more s.long; frames = frame.Round ∷ s.frames })
 before_operand w s p t = elim (un_of t) [ None ↦ refused p | Some o ↦ waits w s (frame.Un o) s.frames ]
 
 abbrev pub closed_case : Width → Shape → Spot → List Frame → Option ℕ → Step
-closed_case w s p [] v = put w s.huge v s.begin (record s { depth = below s.depth; begin = 0; long = 0; huge = false; frames = [] })
-closed_case w s p (frame.Round ∷ fs) v = Ok (record s { mode = mode.Operator w v; depth = below s.depth; long = more s.long; frames = fs })
+closed_case w s p [] v =
+    put w s.huge v s.begin (record s { depth = below s.depth; begin = 0; long = 0; huge = false; frames = [] })
+closed_case w s p (frame.Round ∷ fs) v =
+    Ok (record s { mode = mode.Operator w v; depth = below s.depth; long = more s.long; frames = fs })
 closed_case w s p _ v = refused p
 
 abbrev pub closed_round : Width → Shape → Spot → Climbed → Step
@@ -338,7 +407,8 @@ abbrev pub behind_operand : Width → Option ℕ → Shape → Spot → Sign →
 behind_operand w v s p sign.RightRound = closed_round w s p (climbed 12 s.frames v)
 behind_operand w v s p sign.Colon = chosen w s p (climbed 12 s.frames v)
 behind_operand w v s p sign.Question = tested w s (climbed 11 s.frames v)
-behind_operand w v s p t = elim (bin_of t) [ None ↦ refused p | Some o ↦ joined w s o (climbed (op_level o) s.frames v) ]
+behind_operand w v s p t =
+    elim (bin_of t) [ None ↦ refused p | Some o ↦ joined w s o (climbed (op_level o) s.frames v) ]
 
 -- ---- a token
 
@@ -373,10 +443,6 @@ limited_by _ p f = stop S2 p
 abbrev pub limited : Spot → Step → Step
 limited p (Ok s) = stop S2 p
 limited p (Err f) = limited_by f.rule p f
-
-abbrev pub is_include : Sign → Bool
-is_include sign.Include = true
-is_include _ = false
 
 -- what stands at one byte in place of all else comes first
 abbrev pub step : Shape → Token → Step

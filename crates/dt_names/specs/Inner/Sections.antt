@@ -1,4 +1,5 @@
--- The definitions in sections that stand together: those of a node before its properties, those on a property, and those of the tree.
+-- The definitions in sections that stand together: those of a node before its properties, those on a property, and
+-- those of the tree.
 use Rattle.std.specs.Prelude.{◌≡◌, ◌++◌, ℕ, List, [], ◌∷◌, codes, map, slice_get}
 use Rattle.std.specs.Option.{option_map_or}
 use Rattle.edt_base.specs.BoundData.{BoundData}

@@ -1,0 +1,97 @@
+-- Each job has one answer, which tells of the words and the files, and a refusal writes nothing.
+use Rattle.std.proofs.Common.{◌≡◌, ◌∙◌, if◌then◌else◌, ℕ, Bool, true, false, List, [], ◌∷◌, Option, Some, None, MatchOption, IsTrue, refl, sym, ap, subst, inl, inr}
+use Rattle.edt_base.specs.declared.fault.Fault.{Fault}
+use Rattle.edt_base.specs.declared.fault.Rule.TheVariants as rule
+use Rattle.edt_base.specs.declared.fault.Place.TheVariants as place
+use Rattle.edt_base.specs.FaultText.{is_limit}
+use Rattle.edt_base.specs.Outside.{FilesSeen, held_of}
+use Rattle.edt_run.specs.declared.asked.Cmd.{Cmd}
+use Rattle.edt_run.specs.declared.asked.Cmd.TheVariants as cmd
+use Rattle.edt_run.specs.declared.top.Status.TheVariants as status
+use Rattle.edt_run.specs.Answer.{Answer, Given, IsGiven, done, refusal, refused, fault_line, too_long, first_above, source_limit}
+use Rattle.edt_run.specs.Header.{header}
+use Rattle.edt_run.specs.Job.{JobData}
+use Rattle.edt_run.specs.Promises.{IsAnswer, IsAnswerOf, IsAnswerFrom, is_plain}
+use Rattle.edt_run.specs.SmallAnswer.{IsSmallAnswer}
+use Rattle.edt_run.proofs.SmallLaws.{one_tree}
+
+-- ---- one answer
+
+small_one : (name source : List ℕ) (a b : Answer) → IsSmallAnswer name source a → IsSmallAnswer name source b → a ≡ b
+small_one name source a b (inl h) (inl k) = h.2 ∙ (ap (λ f. done (header f)) (one_tree source h.0 k.0 h.1 k.1) ∙ sym k.2)
+small_one name source a b (inl h) (inr k) = absurd (k.0 h.0 h.1)
+small_one name source a b (inr h) (inl k) = absurd (h.0 k.0 k.1)
+small_one name source a b (inr h) (inr k) = h.1 ∙ sym k.1
+
+one_of : (c : Cmd) (names sources : List (List ℕ)) (a b : Answer) → IsAnswerOf c names sources a → IsAnswerOf c names sources b → a ≡ b
+one_of cmd.Gen (name ∷ names) (source ∷ sources) a b h k = small_one name source a b h k
+one_of cmd.Gen [] sources a b h k = absurd h
+one_of cmd.Gen (name ∷ names) [] a b h k = absurd h
+
+one_to : (o : Option (List ℕ)) (c : Cmd) (names sources : List (List ℕ)) (a b : Answer)
+    → MatchOption o (IsAnswerOf c names sources a) (λ name. a ≡ refused (too_long name))
+    → MatchOption o (IsAnswerOf c names sources b) (λ name. b ≡ refused (too_long name)) → a ≡ b
+one_to None c names sources a b h k = one_of c names sources a b h k
+one_to (Some name) c names sources a b h k = h ∙ sym k
+
+pub one_answer : (job : Option JobData) (given : Given) (a b : Answer) → IsAnswer job given a → IsAnswer job given b → a ≡ b
+one_answer None given a b h k = h ∙ sym k
+one_answer (Some job) given a b h k = one_to (first_above source_limit job.names given.sources) job.cmd job.names given.sources a b h k
+
+-- where the files tell what they hold, what was read is known, and so is the answer
+same_given : (held : List (List ℕ × List ℕ)) (job : Option JobData) (g h : Given) → IsGiven (Some held) job g → IsGiven (Some held) job h → g ≡ h
+same_given held None g h p q = ap (λ (s : List (List ℕ)). record { sources = s }) (p ∙ sym q)
+same_given held (Some job) g h p q = ap (λ (s : List (List ℕ)). record { sources = s }) (p.1 ∙ sym q.1)
+
+pub one_from : (files : FilesSeen) (held : List (List ℕ × List ℕ)) → held_of files ≡ Some held → (job : Option JobData) (a b : Answer)
+    → IsAnswerFrom files job a → IsAnswerFrom files job b → a ≡ b
+one_from files held tells job a b h k =
+    let p : IsGiven (Some held) job h.0 = subst (λ o. IsGiven o job h.0) tells h.1 in
+    let q : IsGiven (Some held) job k.0 = subst (λ o. IsGiven o job k.0) tells k.1 in
+    one_answer job h.0 a b h.2 (subst (λ g. IsAnswer job g b) (sym (same_given held job h.0 k.0 p q)) k.2)
+
+-- ---- what an answer is like
+
+pub record IsProper (answer : Answer) : Type 0 where
+  pub plain : IsTrue (is_plain answer.status)
+  pub used : answer.status ≡ status.Usage → ⊥
+  pub quiet : (answer.status ≡ status.Done → ⊥) → answer.text ≡ []
+
+proper_done : (text : List ℕ) → IsProper (done text)
+proper_done text = record { plain = refl; used = λ e. cc; quiet = λ isnt. absurd (isnt refl) }
+
+proper_status : (b : Bool) (line : List ℕ) → IsProper (refusal (if b then status.Limit else status.Rule) line)
+proper_status true line = record { plain = refl; used = λ e. cc; quiet = λ isnt. refl }
+proper_status false line = record { plain = refl; used = λ e. cc; quiet = λ isnt. refl }
+
+proper_refused : (fault : Fault) → IsProper (refused fault)
+proper_refused fault = proper_status (is_limit fault.rule) (fault_line fault)
+
+small_proper : (name source : List ℕ) (a : Answer) → IsSmallAnswer name source a → IsProper a
+small_proper name source a (inl h) = subst IsProper (sym h.2) (proper_done (header h.0))
+small_proper name source a (inr h) = subst IsProper (sym h.1) (proper_refused (record { rule = rule.S6; place = place.Byte name 0 }))
+
+of_proper : (c : Cmd) (names sources : List (List ℕ)) (a : Answer) → IsAnswerOf c names sources a → IsProper a
+of_proper cmd.Gen (name ∷ names) (source ∷ sources) a h = small_proper name source a h
+of_proper cmd.Gen [] sources a h = absurd h
+of_proper cmd.Gen (name ∷ names) [] a h = absurd h
+
+to_proper : (o : Option (List ℕ)) (c : Cmd) (names sources : List (List ℕ)) (a : Answer)
+    → MatchOption o (IsAnswerOf c names sources a) (λ name. a ≡ refused (too_long name)) → IsProper a
+to_proper None c names sources a h = of_proper c names sources a h
+to_proper (Some name) c names sources a h = subst IsProper (sym h) (proper_refused (too_long name))
+
+pub job_proper : (job : JobData) (given : Given) (a : Answer) → IsAnswer (Some job) given a → IsProper a
+job_proper job given a h = to_proper (first_above source_limit job.names given.sources) job.cmd job.names given.sources a h
+
+pub answer_plain : (job : Option JobData) (given : Given) (a : Answer) → IsAnswer job given a → IsTrue (is_plain a.status)
+answer_plain None given a h = ap (λ (x : Answer). is_plain x.status) h
+answer_plain (Some job) given a h = (job_proper job given a h).plain
+
+pub answer_quiet : (job : Option JobData) (given : Given) (a : Answer) → IsAnswer job given a → (a.status ≡ status.Done → ⊥) → a.text ≡ []
+answer_quiet None given a h isnt = ap (λ (x : Answer). x.text) h
+answer_quiet (Some job) given a h isnt = (job_proper job given a h).quiet isnt
+
+pub answer_used : (job : Option JobData) (given : Given) (a : Answer) → IsAnswer job given a → a.status ≡ status.Usage → job ≡ None
+answer_used None given a h is = refl
+answer_used (Some job) given a h is = absurd ((job_proper job given a h).used is)
