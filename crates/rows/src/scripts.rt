@@ -21,7 +21,7 @@ use std::alloc::{AllocError, Global};
 const MOST_BYTES: usize = 200;
 
 /// One of so many ends is read with a beginning.
-const EACH: usize = 6;
+const EACH: usize = 12;
 
 /// What may stand after the beginning of a source, fit or not, with blanks between; nothing may, too.
 const ENDS: &str = " ; : { } < > [ ] ( ) = , / - ? + &l &{/a} a \tl: 7 ab a@1 p? 'c' \"t\" \
