@@ -1,4 +1,4 @@
-//! Rows of `c_macro`. Texts are expanded by `expand` and by the plain body, which have to agree.
+//! Rows of `c_macro`.
 //!
 //! - `text` is a text. The answer has its lines after expansion, `_` before a token that white space
 //!   precedes and `|` after each line, and then the rule that it breaks, if any.
@@ -8,23 +8,13 @@
 use crate::table::Row;
 use c_macro::{Defs, expand};
 use c_tokens::{CEnd, Lines, Tok};
-use plain::{expand_plainly, unbarred};
 use std::alloc::{AllocError, Global};
-
-/// How many steps the plain body may take, and how long a text it is given: it is slow.
-const MOST_STEPS: u32 = 1000;
-
-const MOST_BYTES: usize = 5000;
 
 pub fn answer(alloc: Global, row: &Row) -> Result<Option<String>, AllocError> {
     if let Some(text) = row.bytes("text") {
-        let mut out = expanded(alloc, text, false)?;
-        if text.len() <= MOST_BYTES {
-            let plain = expanded(alloc, text, true)?;
-            if plain.as_str() != out.as_str() {
-                write!(out, ", plainly {}", plain.as_str())?;
-            }
-        }
+        let mut out = String::new(alloc);
+        let end = push_expanded(alloc, text, &mut out);
+        push_end(end, &mut out)?;
         Ok(Some(out))
     } else if let (Some(before), Some(locked)) = (row.bytes("before"), row.bytes("locked")) {
         let mut out = String::new(alloc);
@@ -45,16 +35,8 @@ fn push_end(end: Result<(), CEnd>, out: &mut String) -> Result<(), AllocError> {
     }
 }
 
-/// The lines of a text after expansion, and the rule that it breaks.
-fn expanded(alloc: Global, text: &[u8], plainly: bool) -> Result<String, AllocError> {
-    let mut out = String::new(alloc);
-    let end = push_expanded(alloc, text, plainly, &mut out);
-    push_end(end, &mut out)?;
-    Ok(out)
-}
-
-/// Adds the lines of a text after expansion, by `expand` or by the plain body.
-fn push_expanded(alloc: Global, text: &[u8], plainly: bool, out: &mut String) -> Result<(), CEnd> {
+/// Adds the lines of a text after expansion.
+fn push_expanded(alloc: Global, text: &[u8], out: &mut String) -> Result<(), CEnd> {
     let mut defs = Defs::new(alloc);
     let mut lines = Lines::new(text);
     for _ in 0..=text.len() {
@@ -65,15 +47,8 @@ fn push_expanded(alloc: Global, text: &[u8], plainly: bool, out: &mut String) ->
             defs.apply(&line)?;
             continue;
         }
-        if plainly {
-            let toks = unbarred(alloc, line.toks.as_slice())?;
-            for p in expand_plainly(alloc, &defs, toks.as_slice(), MOST_STEPS)?.iter() {
-                push_tok(&p.tok, out)?;
-            }
-        } else {
-            for tok in expand(alloc, &defs, &line.toks)?.iter() {
-                push_tok(tok, out)?;
-            }
+        for tok in expand(alloc, &defs, &line.toks)?.iter() {
+            push_tok(tok, out)?;
         }
         out.push_str("|")?;
     }

@@ -6,13 +6,16 @@
 
 mod c_lines;
 mod expansions;
+mod headers;
 mod objects;
 mod orders;
 mod records;
+mod registers;
 mod runs;
 mod scripts;
 mod source_tokens;
 mod table;
+mod three_nodes;
 mod yaml_values;
 
 use std::alloc::{AllocError, Global};
@@ -28,19 +31,23 @@ enum Layer {
     DtsParse,
     YamlProfile,
     BindLoad,
+    RegRanges,
     DepOrder,
+    HeadWrite,
     CTokens,
     CMacro,
     EdtRun,
 }
 
-const LAYERS: [Layer; 9] = [
+const LAYERS: [Layer; 11] = [
     Layer::EdtBase,
     Layer::DtsLex,
     Layer::DtsParse,
     Layer::YamlProfile,
     Layer::BindLoad,
+    Layer::RegRanges,
     Layer::DepOrder,
+    Layer::HeadWrite,
     Layer::CTokens,
     Layer::CMacro,
     Layer::EdtRun,
@@ -55,7 +62,9 @@ impl Layer {
             Layer::DtsParse => "dts_parse.rows",
             Layer::YamlProfile => "yaml_profile.rows",
             Layer::BindLoad => "bind_load.rows",
+            Layer::RegRanges => "reg_ranges.rows",
             Layer::DepOrder => "dep_order.rows",
+            Layer::HeadWrite => "head_write.rows",
             Layer::CTokens => "c_tokens.rows",
             Layer::CMacro => "c_macro.rows",
             Layer::EdtRun => "edt_run.rows",
@@ -70,7 +79,9 @@ impl Layer {
             Layer::DtsParse => scripts::answer(alloc, row),
             Layer::YamlProfile => yaml_values::answer(alloc, row),
             Layer::BindLoad => records::answer(alloc, row),
+            Layer::RegRanges => registers::answer(alloc, row),
             Layer::DepOrder => orders::answer(alloc, row),
+            Layer::HeadWrite => headers::answer(alloc, row),
             Layer::CTokens => c_lines::answer(alloc, row),
             Layer::CMacro => expansions::answer(alloc, row),
             Layer::EdtRun => runs::answer(alloc, row),

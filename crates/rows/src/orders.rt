@@ -18,20 +18,28 @@ pub fn answer(alloc: Global, row: &Row) -> Result<Option<String>, AllocError> {
         return Ok(None);
     };
     let needs = needs_of(alloc, text)?;
+    Ok(Some(shown(alloc, &needs)?))
+}
+
+/// The order as text, or the node that is named.
+fn shown(alloc: Global, needs: &Vec<Vec<NodeId>>) -> Result<String, AllocError> {
     if needs.len() >= 1 << 32 || !are_within(needs.as_slice()) {
-        return Ok(None);
+        return String::from_str(alloc, "not within");
     }
+    match order(alloc, needs) {
+        Ok(ids) => places(alloc, ids.as_slice()),
+        Err(OrderEnd::Cycle(id)) => format!(in alloc; "cycle {}", id.0),
+        Err(OrderEnd::Memory(e)) => Err(e),
+    }
+}
+
+/// The places of nodes as text.
+fn places(alloc: Global, ids: &[NodeId]) -> Result<String, AllocError> {
     let mut out = String::new(alloc);
-    match order(alloc, &needs) {
-        Ok(ids) => {
-            for id in ids.iter() {
-                write!(out, "{} ", id.0)?;
-            }
-        }
-        Err(OrderEnd::Cycle(id)) => write!(out, "cycle {}", id.0)?,
-        Err(OrderEnd::Memory(e)) => return Err(e),
+    for id in ids {
+        write!(out, "{} ", id.0)?;
     }
-    Ok(Some(out))
+    Ok(out)
 }
 
 /// What each node requires.

@@ -1,103 +1,30 @@
-//! Rows of `dts_parse`. Each source is read by `parse` and plainly, and where it is short, each of its
-//! beginnings is too, with some of the ends in turn: the two readings have to agree.
+//! Rows of `dts_parse`.
 //!
 //! - `base` or `overlay` is a source. The answer has its statements: O a node's opening, C its close,
 //!   L a label, A a property with its value, P and D deletions, X a mark, each with its byte; or the
 //!   rule that it breaks, with its byte.
 //! - `cut` is a base. The answer has the lengths at which the source can be cut without a token being
 //!   missed.
-//! - `begun` is the beginning of a base. The answer is `agreed` where the two readings agree on it with
-//!   each end.
 //! - `tree` is an expression, operators after their operands, and `cell` is the same one as it stands
 //!   in a cell. The answer is what each is worth.
 
 use crate::table::Row;
 use dts_parse::{Act, BinOp, Expr, RawCell, RawPart, Stmt, Target, UnOp, eval, parse};
 use edt_base::{End, Kind, Place, Text};
-use plain::{Stop, binary_of, read_plainly, unary_of};
 use std::alloc::{AllocError, Global};
-
-/// How long a source is at most of which each beginning is read.
-const MOST_BYTES: usize = 200;
-
-/// One of so many ends is read with a beginning.
-const EACH: usize = 6;
-
-/// What may stand after the beginning of a source, fit or not, with blanks between; nothing may, too.
-const ENDS: &str = " ; : { } < > [ ] ( ) = , / - ? + &l &{/a} a \tl: 7 ab a@1 p? 'c' \"t\" \
-0x10000000000000000 /bits/ /include/ /dts-v1/ /plugin/ /memreserve/ /delete-node/ \
-/delete-property/ /omit-if-no-ref/ $";
 
 pub fn answer(alloc: Global, row: &Row) -> Result<Option<String>, AllocError> {
     if let Some(source) = row.bytes("base") {
-        Ok(Some(read_over(alloc, source, true)?))
+        Ok(Some(read(alloc, source, true)?))
     } else if let Some(source) = row.bytes("overlay") {
-        Ok(Some(read_over(alloc, source, false)?))
+        Ok(Some(read(alloc, source, false)?))
     } else if let Some(source) = row.bytes("cut") {
         Ok(Some(cuts(alloc, source)?))
-    } else if let Some(source) = row.bytes("begun") {
-        let mut out = String::new(alloc);
-        for end in ENDS.split(' ') {
-            push_difference(alloc, source, end, true, &mut out)?;
-        }
-        if out.is_empty() {
-            out.push_str("agreed")?;
-        }
-        Ok(Some(out))
     } else if let Some(tree) = row.text("tree") {
         worth(alloc, tree, row.text("cell"))
     } else {
         Ok(None)
     }
-}
-
-/// The statements of a source, or its fault, and where the two readings differ.
-fn read_over(alloc: Global, source: &[u8], base: bool) -> Result<String, AllocError> {
-    let mut out = read(alloc, source, base)?;
-    let plain = read_plain(alloc, source, base)?;
-    if plain.as_str() != out.as_str() {
-        write!(out, ", plainly {}", plain.as_str())?;
-    }
-    if source.len() <= MOST_BYTES {
-        for (size, _) in source.iter().enumerate() {
-            let (begun, _) = source.split_at(size);
-            for (at, end) in ENDS.split(' ').enumerate() {
-                if at % EACH == size % EACH {
-                    push_difference(alloc, begun, end, base, &mut out)?;
-                }
-            }
-        }
-    }
-    Ok(out)
-}
-
-/// Adds an end with which the two readings of a beginning differ.
-fn push_difference(
-    alloc: Global,
-    begun: &[u8],
-    end: &str,
-    base: bool,
-    out: &mut String,
-) -> Result<(), AllocError> {
-    let mut source = Vec::from_slice(alloc, begun)?;
-    source.extend_from_slice(end.as_bytes())?;
-    let found = read(alloc, source.as_slice(), base)?;
-    let plain = read_plain(alloc, source.as_slice(), base)?;
-    if found.as_str() != plain.as_str() {
-        write!(out, ", differs at {} before {end}", begun.len())?;
-    }
-    Ok(())
-}
-
-/// What the plain reading gives of a source.
-fn read_plain(alloc: Global, source: &[u8], base: bool) -> Result<String, AllocError> {
-    let mut out = String::new(alloc);
-    match read_plainly(alloc, source, base) {
-        Ok(stmts) => show_stmts(&mut out, stmts.as_slice())?,
-        Err(Stop::Broken(rule, at)) => write!(out, "!{rule}@{at}")?,
-        Err(Stop::Memory(e)) => return Err(e),
-    }
-    Ok(out)
 }
 
 /// The statements of a source, or its fault.
@@ -123,12 +50,8 @@ fn cuts(alloc: Global, source: &[u8]) -> Result<String, AllocError> {
     for (end, _) in source.iter().enumerate() {
         let (cut, _) = source.split_at(end);
         let found = read(alloc, cut, true)?;
-        let plain = read_plain(alloc, cut, true)?;
         if !found.starts_with("!S1@") {
             write!(out, "{end} ")?;
-        }
-        if found.as_str() != plain.as_str() {
-            write!(out, "plainly {} ", plain.as_str())?;
         }
     }
     Ok(out)
@@ -158,7 +81,7 @@ fn tree_of(alloc: Global, text: &str) -> Result<Option<Expr>, AllocError> {
     for word in text.split(' ') {
         let tree = if let Ok(n) = word.parse::<u64>() {
             Some(Expr::Num(n))
-        } else if let Some(op) = unary_word(word) {
+        } else if let Some(op) = unary_of(word) {
             unary(alloc, op, trees.pop())?
         } else if let Some(op) = binary_of(word) {
             let right = trees.pop();
@@ -216,12 +139,38 @@ fn conditional(
     }
 }
 
-/// The operator before an operand that a word is; `neg` stands for `-`.
-fn unary_word(word: &str) -> Option<UnOp> {
+/// The operator before an operand that is spelled so; `neg` stands for `-`.
+fn unary_of(word: &str) -> Option<UnOp> {
     match word {
         "neg" => Some(UnOp::Neg),
-        "-" => None,
-        word => unary_of(word),
+        "~" => Some(UnOp::Flip),
+        "!" => Some(UnOp::Not),
+        _ => None,
+    }
+}
+
+/// The operator between operands that is spelled so.
+fn binary_of(word: &str) -> Option<BinOp> {
+    match word {
+        "*" => Some(BinOp::Mul),
+        "/" => Some(BinOp::Div),
+        "%" => Some(BinOp::Rem),
+        "+" => Some(BinOp::Add),
+        "-" => Some(BinOp::Sub),
+        "<<" => Some(BinOp::Shl),
+        ">>" => Some(BinOp::Shr),
+        "<" => Some(BinOp::Lt),
+        ">" => Some(BinOp::Gt),
+        "<=" => Some(BinOp::Le),
+        ">=" => Some(BinOp::Ge),
+        "==" => Some(BinOp::Eq),
+        "!=" => Some(BinOp::Ne),
+        "&" => Some(BinOp::BitAnd),
+        "^" => Some(BinOp::BitXor),
+        "|" => Some(BinOp::BitOr),
+        "&&" => Some(BinOp::And),
+        "||" => Some(BinOp::Or),
+        _ => None,
     }
 }
 
