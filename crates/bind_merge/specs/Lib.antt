@@ -1,0 +1,15 @@
+pub mod Adding
+pub mod Cleanness
+pub mod Conflicts
+pub mod Facts
+pub mod Files
+pub mod Holdings
+pub mod Joining
+pub mod Laws
+pub mod Levels
+pub mod Merging
+pub mod Options
+pub mod Ordered
+pub mod Passing
+pub mod Uniting
+pub mod Walks
