@@ -15,8 +15,8 @@ use Rattle.dts_tree.specs.Places.{Place, place_eq, is_within, one_below, place_o
 use Rattle.dts_tree.specs.Deeds.{Deed, deed, deletes, uncovered}
 use Rattle.dts_tree.specs.Live.{begins, spots, is_there, labelled, last_of, node_of}
 use Rattle.dts_tree.specs.Reading.{Before, live, here, closed, done, done_if_there, done_at, opening, naming, after, read_on}
-use Rattle.dts_tree.specs.Arena.{ArenaData, is_gone, is_alive, child_of, spot, added, removed, root_arena, entered, entered_at, slot_at, entered_slot, last_slot, but_last, down, at_path, at_names}
-use Rattle.dts_tree.specs.Machine.{EventData, event, LabelsData, ReaderData, no_labels, alive_in, stack_of, stack_at, trimmed_at, labels_after, named_slot, looked_up, here_slot, noted, entering, opened, opened_at, opening_slot, without, without_child, without_at, deleting_slot, noted_child, noted_at, marking_slot, labelling, carried, carried_on}
+use Rattle.dts_tree.specs.Inner.Arena.{ArenaData, is_gone, is_alive, child_of, spot, added, removed, root_arena, entered, entered_at, slot_at, entered_slot, last_slot, but_last, down, at_path, at_names}
+use Rattle.dts_tree.specs.Inner.Machine.{EventData, event, LabelsData, ReaderData, no_labels, alive_in, stack_of, stack_at, trimmed_at, labels_after, named_slot, looked_up, here_slot, noted, entering, opened, opened_at, opening_slot, without, without_child, without_at, deleting_slot, noted_child, noted_at, marking_slot, labelling, carried, carried_on}
 use Rattle.dts_tree.proofs.Lists.{Member, all_at, all_from, all_append, and_both, member_of_filter}
 use Rattle.dts_tree.proofs.PlaceLaws.{within_longer, place_self, within_more, within_self}
 use Rattle.dts_tree.proofs.DeedLaws.{outside, uncovered_done, uncovered_deleted}
@@ -220,10 +220,10 @@ trim_stacks gone l None p low = refl
 trim_stacks gone l (Some n) None low = refl
 trim_stacks gone l (Some n) (Some m) low = elim (cases_eq m n) [
   inl e ↦
-    subst (λ x. alive_in gone (get_or (Rattle.std.proofs.Common.set l.stacks n (Rattle.dts_tree.specs.Machine.trimmed gone (get_or l.stacks n []))) x []) ≡ alive_in gone (get_or l.stacks x [])) (sym e)
-    (ap (alive_in gone) (Rattle.std.proofs.lemmas.List.get_or-set_same l.stacks n (Rattle.dts_tree.specs.Machine.trimmed gone (get_or l.stacks n [])) [] (low n refl))
+    subst (λ x. alive_in gone (get_or (Rattle.std.proofs.Common.set l.stacks n (Rattle.dts_tree.specs.Inner.Machine.trimmed gone (get_or l.stacks n []))) x []) ≡ alive_in gone (get_or l.stacks x [])) (sym e)
+    (ap (alive_in gone) (Rattle.std.proofs.lemmas.List.get_or-set_same l.stacks n (Rattle.dts_tree.specs.Inner.Machine.trimmed gone (get_or l.stacks n [])) [] (low n refl))
     ∙ alive_trimmed gone (get_or l.stacks n []))
-  | inr d ↦ ap (alive_in gone) (Rattle.std.proofs.lemmas.List.get_or-set_other l.stacks n m (Rattle.dts_tree.specs.Machine.trimmed gone (get_or l.stacks n [])) [] d) ]
+  | inr d ↦ ap (alive_in gone) (Rattle.std.proofs.lemmas.List.get_or-set_other l.stacks n m (Rattle.dts_tree.specs.Inner.Machine.trimmed gone (get_or l.stacks n [])) [] d) ]
 
 trim_bound : (gone : List Bool) (l : LabelsData) (o p : Option ℕ) (f : ℕ → Bool) → ((n : ℕ) → o ≡ Some n → n < length l.stacks)
     → ((q : Option ℕ) → (q ≡ p) ⊎ (q ≡ o) → list_all f (stack_at l q) ≡ true) → list_all f (stack_at (trimmed_at gone l o) p) ≡ true
@@ -231,23 +231,23 @@ trim_bound gone l None p f low h = h p (inl refl)
 trim_bound gone l (Some n) None f low h = refl
 trim_bound gone l (Some n) (Some m) f low h = elim (cases_eq m n) [
   inl e ↦
-    subst (λ x. list_all f (get_or (Rattle.std.proofs.Common.set l.stacks n (Rattle.dts_tree.specs.Machine.trimmed gone (get_or l.stacks n []))) x []) ≡ true) (sym e)
-    (subst (λ xs. list_all f xs ≡ true) (sym (Rattle.std.proofs.lemmas.List.get_or-set_same l.stacks n (Rattle.dts_tree.specs.Machine.trimmed gone (get_or l.stacks n [])) [] (low n refl)))
+    subst (λ x. list_all f (get_or (Rattle.std.proofs.Common.set l.stacks n (Rattle.dts_tree.specs.Inner.Machine.trimmed gone (get_or l.stacks n []))) x []) ≡ true) (sym e)
+    (subst (λ xs. list_all f xs ≡ true) (sym (Rattle.std.proofs.lemmas.List.get_or-set_same l.stacks n (Rattle.dts_tree.specs.Inner.Machine.trimmed gone (get_or l.stacks n [])) [] (low n refl)))
       (all_trimmed gone f (get_or l.stacks n []) (h (Some n) (inr refl))))
-  | inr d ↦ subst (λ xs. list_all f xs ≡ true) (sym (Rattle.std.proofs.lemmas.List.get_or-set_other l.stacks n m (Rattle.dts_tree.specs.Machine.trimmed gone (get_or l.stacks n [])) [] d)) (h (Some m) (inl refl)) ]
+  | inr d ↦ subst (λ xs. list_all f xs ≡ true) (sym (Rattle.std.proofs.lemmas.List.get_or-set_other l.stacks n m (Rattle.dts_tree.specs.Inner.Machine.trimmed gone (get_or l.stacks n [])) [] d)) (h (Some m) (inl refl)) ]
 
 trim_numbers : (gone : List Bool) (l : LabelsData) (o : Option ℕ) → ((trimmed_at gone l o).numbers ≡ l.numbers) × (length (trimmed_at gone l o).stacks ≡ length l.stacks)
 trim_numbers gone l None = (refl, refl)
-trim_numbers gone l (Some n) = (refl, Rattle.std.proofs.lemmas.List.length-set l.stacks n (Rattle.dts_tree.specs.Machine.trimmed gone (get_or l.stacks n [])))
+trim_numbers gone l (Some n) = (refl, Rattle.std.proofs.lemmas.List.length-set l.stacks n (Rattle.dts_tree.specs.Inner.Machine.trimmed gone (get_or l.stacks n [])))
 
 tied_trim : (places : List Place) (a : ArenaData) (es : List EventData) (l : LabelsData) (us : List Deed) (k : List ℕ)
     → IsTied places a es l us → IsTied places a es (labels_after a.gone l k) us
 tied_trim places a es l us k t =
-    let o : Option ℕ = Rattle.dts_tree.specs.Arena.named k l.numbers in
+    let o : Option ℕ = Rattle.dts_tree.specs.Inner.Arena.named k l.numbers in
     let low : (n : ℕ) → o ≡ Some n → n < length l.stacks = λ n h. t.numbered.low k n h in
     let same = trim_numbers a.gone l o in
-    let at_name : (q : List ℕ) → stack_of (labels_after a.gone l k) q ≡ stack_at (trimmed_at a.gone l o) (Rattle.dts_tree.specs.Arena.named q l.numbers) = λ q.
-        ap (λ ns. stack_at (trimmed_at a.gone l o) (Rattle.dts_tree.specs.Arena.named q ns)) same.0 in
+    let at_name : (q : List ℕ) → stack_of (labels_after a.gone l k) q ≡ stack_at (trimmed_at a.gone l o) (Rattle.dts_tree.specs.Inner.Arena.named q l.numbers) = λ q.
+        ap (λ ns. stack_at (trimmed_at a.gone l o) (Rattle.dts_tree.specs.Inner.Arena.named q ns)) same.0 in
     record {
       shape = t.shape;
       sound = t.sound;
@@ -255,15 +255,15 @@ tied_trim places a es l us k t =
       events = t.events;
       bound = t.bound;
       labels = λ q. ap (λ xs. map (place_at places) (alive_in a.gone xs)) (at_name q)
-        ∙ (ap (map (place_at places)) (trim_stacks a.gone l o (Rattle.dts_tree.specs.Arena.named q l.numbers) low) ∙ t.labels q);
+        ∙ (ap (map (place_at places)) (trim_stacks a.gone l o (Rattle.dts_tree.specs.Inner.Arena.named q l.numbers) low) ∙ t.labels q);
       stacked = λ q. subst (λ xs. list_all (Rattle.dts_tree.proofs.Tying.slot_below (length a.spots)) xs ≡ true) (sym (at_name q))
-        (trim_bound a.gone l o (Rattle.dts_tree.specs.Arena.named q l.numbers) (Rattle.dts_tree.proofs.Tying.slot_below (length a.spots)) low
+        (trim_bound a.gone l o (Rattle.dts_tree.specs.Inner.Arena.named q l.numbers) (Rattle.dts_tree.proofs.Tying.slot_below (length a.spots)) low
           (λ p h. elim h [
             inl e ↦ subst (λ x. list_all (Rattle.dts_tree.proofs.Tying.slot_below (length a.spots)) (stack_at l x) ≡ true) (sym e) (t.stacked q)
             | inr e ↦ subst (λ x. list_all (Rattle.dts_tree.proofs.Tying.slot_below (length a.spots)) (stack_at l x) ≡ true) (sym e) (t.stacked k) ]));
       numbered = record {
-        low = λ q n h. subst (λ m. n < m) (sym same.1) (t.numbered.low q n (subst (λ ns. Rattle.dts_tree.specs.Arena.named q ns ≡ Some n) same.0 h));
-        one = λ q m n g h. t.numbered.one q m n (subst (λ ns. Rattle.dts_tree.specs.Arena.named q ns ≡ Some n) same.0 g) (subst (λ ns. Rattle.dts_tree.specs.Arena.named m ns ≡ Some n) same.0 h);
+        low = λ q n h. subst (λ m. n < m) (sym same.1) (t.numbered.low q n (subst (λ ns. Rattle.dts_tree.specs.Inner.Arena.named q ns ≡ Some n) same.0 h));
+        one = λ q m n g h. t.numbered.one q m n (subst (λ ns. Rattle.dts_tree.specs.Inner.Arena.named q ns ≡ Some n) same.0 g) (subst (λ ns. Rattle.dts_tree.specs.Inner.Arena.named m ns ≡ Some n) same.0 h);
       };
     }
 

@@ -14,8 +14,8 @@ use Rattle.dts_tree.specs.Places.{Place, place_eq, is_within}
 use Rattle.dts_tree.specs.Deeds.{Deed, deed, deletes, uncovered}
 use Rattle.dts_tree.specs.Live.{begins, spots, is_there, labelled, node_of}
 use Rattle.dts_tree.specs.Reading.{Before, live, here, closed, done, done_if_there, done_at, opening, naming, after, read_on, read_all, Unnamed}
-use Rattle.dts_tree.specs.Arena.{ArenaData, is_gone, is_alive, child_of, removed, root_arena, entered, entered_slot, last_slot}
-use Rattle.dts_tree.specs.Machine.{EventData, event, LabelsData, ReaderData, no_labels, named_slot, looked_up, here_slot, noted, entering, opened, opened_at, opening_slot, without, without_child, without_at, deleting_slot, noted_child, noted_at, marking_slot, labelling, carried, carried_on, carried_all}
+use Rattle.dts_tree.specs.Inner.Arena.{ArenaData, is_gone, is_alive, child_of, removed, root_arena, entered, entered_slot, last_slot}
+use Rattle.dts_tree.specs.Inner.Machine.{EventData, event, LabelsData, ReaderData, no_labels, named_slot, looked_up, here_slot, noted, entering, opened, opened_at, opening_slot, without, without_child, without_at, deleting_slot, noted_child, noted_at, marking_slot, labelling, carried, carried_on, carried_all}
 use Rattle.dts_tree.proofs.Lists.{Member, all_at, all_from, member_in_map}
 use Rattle.dts_tree.proofs.PlaceLaws.{within_longer, place_self, within_more, within_self}
 use Rattle.dts_tree.proofs.DeedLaws.{outside, uncovered_done, uncovered_deleted}
@@ -91,9 +91,9 @@ labelling_stands r b s k =
     let v : length r.arena.spots ≤ suc (length b.deeds) = s.levels in
     record {
       places = s.places;
-      tied = subst (λ us. IsTied s.places r.arena (r.events ++ event (here_slot r) (Label k) ∷ []) (Rattle.dts_tree.specs.Machine.with_label r.labels k (here_slot r)) us)
+      tied = subst (λ us. IsTied s.places r.arena (r.events ++ event (here_slot r) (Label k) ∷ []) (Rattle.dts_tree.specs.Inner.Machine.with_label r.labels k (here_slot r)) us)
         (sym (uncovered_done b.deeds (deed (here b) (Label k)) refl))
-        (subst (λ p. IsTied s.places r.arena (r.events ++ event (here_slot r) (Label k) ∷ []) (Rattle.dts_tree.specs.Machine.with_label r.labels k (here_slot r))
+        (subst (λ p. IsTied s.places r.arena (r.events ++ event (here_slot r) (Label k) ∷ []) (Rattle.dts_tree.specs.Inner.Machine.with_label r.labels k (here_slot r))
           (live b ++ deed p (Label k) ∷ [])) h.0 (tied_label s.places r.arena r.events r.labels (live b) (here_slot r) k s.tied h.1));
       opens = s.opens;
       levels = omega arith;
@@ -256,7 +256,7 @@ root_below : (i c : ℕ) → Member c (Rattle.dts_tree.proofs.Shape.below_at roo
 root_below zero c m = m
 root_below (suc i) c m = m
 
-no_lead : (t : Step) (j : ℕ) → Rattle.dts_tree.specs.Arena.lead_of Rattle.dts_tree.specs.Arena.no_leads t ≡ Some j → ⊥
+no_lead : (t : Step) (j : ℕ) → Rattle.dts_tree.specs.Inner.Arena.lead_of Rattle.dts_tree.specs.Inner.Arena.no_leads t ≡ Some j → ⊥
 no_lead (Child n) j h = none-some j h
 no_lead (Prop n) j h = none-some j h
 
@@ -364,7 +364,7 @@ marking_follows r b s at act (target.Child n) d u = noted_child_stands r b s (Ch
 marking_follows r b s at act (target.ByLabel k) d u = noted_at_by r b s (target.ByLabel k) at act d u
 marking_follows r b s at act (target.ByPath t) d u = noted_at_by r b s (target.ByPath t) at act d u
 
-closing_stands : (r : ReaderData) (b : Before) → IsStanding r b → IsStanding (record r { within = Rattle.dts_tree.specs.Arena.but_last r.within }) (record b { within = closed b.within })
+closing_stands : (r : ReaderData) (b : Before) → IsStanding r b → IsStanding (record r { within = Rattle.dts_tree.specs.Inner.Arena.but_last r.within }) (record b { within = closed b.within })
 closing_stands r b s = record {
   places = s.places;
   tied = s.tied;
@@ -395,7 +395,7 @@ carried_on_follows (x ∷ rest) r b s = follows_on (carried r x.at x.act) (after
 
 -- ---- sources
 
-pub start_stands : IsStanding Rattle.dts_tree.specs.Machine.reader_start Rattle.dts_tree.specs.Reading.start
+pub start_stands : IsStanding Rattle.dts_tree.specs.Inner.Machine.reader_start Rattle.dts_tree.specs.Reading.start
 start_stands = record {
   places = [] ∷ [];
   tied = root_tied;

@@ -10,7 +10,7 @@ use Rattle.std.specs.Str.{bytes_eq}
 use Rattle.std.proofs.lemmas.Map.Text.{is_eq-slice_cmp}
 use Rattle.std.proofs.lemmas.Map.Lookups.{exact_bytes}
 use Rattle.std.proofs.lemmas.Bool.{false_from_ne_true}
-use Rattle.dts_tree.specs.Arena.{named, with_name}
+use Rattle.dts_tree.specs.Inner.Arena.{named, with_name}
 use Rattle.dts_tree.proofs.PlaceLaws.{same_bytes, bytes_self}
 
 test_self : (k : List ℕ) → is_at (slice_cmp nat_cmp k) k ≡ true

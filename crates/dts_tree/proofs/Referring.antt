@@ -4,7 +4,7 @@ use Rattle.edt_base.specs.declared.fault.End.{End}
 use Rattle.edt_base.specs.declared.fault.End.TheVariants as ending
 use Rattle.edt_base.specs.declared.fault.Fault.{Fault}
 use Rattle.dts_tree.specs.Reading.{Before, Unnamed}
-use Rattle.dts_tree.specs.Machine.{ReaderData}
+use Rattle.dts_tree.specs.Inner.Machine.{ReaderData}
 use Rattle.dts_tree.specs.References.{or_fault, unnamed_fault, Answers, Tells}
 use Rattle.dts_tree.proofs.Following.{FollowsAll}
 

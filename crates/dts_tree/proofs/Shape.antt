@@ -8,7 +8,7 @@ use Rattle.dts_tree.specs.declared.spot.Step.{Step}
 use Rattle.dts_tree.specs.declared.spot.Step.TheVariants.{Child, Prop}
 use Rattle.dts_tree.specs.declared.spot.Spot.{Spot}
 use Rattle.dts_tree.specs.Places.{Place, step_eq, place_eq, is_within}
-use Rattle.dts_tree.specs.Arena.{ArenaData, LeadsData, is_gone, is_alive, there, lead_of, with_lead, no_leads, child_of, spot, pushed, leading, grown, added, root_arena}
+use Rattle.dts_tree.specs.Inner.Arena.{ArenaData, LeadsData, is_gone, is_alive, there, lead_of, with_lead, no_leads, child_of, spot, pushed, leading, grown, added, root_arena}
 use Rattle.dts_tree.proofs.Lists.{Member, member_left, member_right, member_cases}
 use Rattle.dts_tree.proofs.NameLaws.{named_same, named_other}
 

@@ -3,7 +3,7 @@ use Rattle.std.proofs.Common.{◌≡◌, ◌∙◌, ◌+◌, ◌-◌, ◌++◌, 
 use Rattle.std.specs.Prelude.{slice_get}
 use Rattle.std.proofs.lemmas.List.{take_at, length_push, get_or_push, nil_from_length}
 use Rattle.std.proofs.lemmas.Option.{slice_get-get_or}
-use Rattle.dts_tree.specs.Arena.{ArenaData, last_slot, but_last, left_at, sweep, work}
+use Rattle.dts_tree.specs.Inner.Arena.{ArenaData, last_slot, but_last, left_at, sweep, work}
 use Rattle.dts_tree.proofs.Shape.{below_at}
 use Rattle.dts_tree.proofs.Sweeping.{work_falls}
 

@@ -7,7 +7,7 @@ use Rattle.std.proofs.lemmas.List.{get_or-set_same, get_or-set_other, get_or_pas
 use Rattle.std.proofs.lemmas.List.Sums.{sum_by-set}
 use Rattle.std.proofs.lemmas.Option.{same_Some, slice_get-get_or, slice_get_past, none-some}
 use Rattle.dts_tree.specs.Places.{Place, place_eq, is_within}
-use Rattle.dts_tree.specs.Arena.{ArenaData, is_gone, is_alive, last_slot, but_last, left_at, sweep, work, removed}
+use Rattle.dts_tree.specs.Inner.Arena.{ArenaData, is_gone, is_alive, last_slot, but_last, left_at, sweep, work, removed}
 use Rattle.dts_tree.proofs.Lists.{Member, member_left, member_right, member_cases}
 use Rattle.dts_tree.proofs.PlaceLaws.{within_self, within_more, within_cases}
 use Rattle.dts_tree.proofs.Shape.{IsShaped, IsSound, place_at, parent_at, step_at, below_at, there_within, apart}
@@ -240,7 +240,7 @@ sound_after places a first shape sound p g =
         inl e ↦ subst (λ sp. (0 < c) × (c < length sp) × (parent_at sp c ≡ i)) (sym s.spots) (sound.lists i c (subst (λ l. Member c l) e m))
         | inr e ↦ absurd (subst (λ l. Member c l) e m) ];
       led = λ i q h. subst (λ sp. Rattle.dts_tree.proofs.Shape.lead_at now (parent_at sp i) (step_at sp i) ≡ Some i) (sym s.spots)
-        (subst (λ ls. Rattle.dts_tree.specs.Arena.lead_of (get_or ls (parent_at a.spots i) Rattle.dts_tree.specs.Arena.no_leads) (step_at a.spots i) ≡ Some i) (sym s.leads) (sound.led i q (was i h)));
+        (subst (λ ls. Rattle.dts_tree.specs.Inner.Arena.lead_of (get_or ls (parent_at a.spots i) Rattle.dts_tree.specs.Inner.Arena.no_leads) (step_at a.spots i) ≡ Some i) (sym s.leads) (sound.led i q (was i h)));
       leads_right = λ i j t h. subst (λ sp. (0 < j) × (j < length sp) × (parent_at sp j ≡ i) × (step_at sp j ≡ t)) (sym s.spots)
-        (sound.leads_right i j t (subst (λ ls. Rattle.dts_tree.specs.Arena.lead_of (get_or ls i Rattle.dts_tree.specs.Arena.no_leads) t ≡ Some j) s.leads h));
+        (sound.leads_right i j t (subst (λ ls. Rattle.dts_tree.specs.Inner.Arena.lead_of (get_or ls i Rattle.dts_tree.specs.Inner.Arena.no_leads) t ≡ Some j) s.leads h));
     }

@@ -7,9 +7,9 @@ use Rattle.std.proofs.lemmas.List.Folds.{list_any-append}
 use Rattle.std.proofs.lemmas.List.Sums.{fold-append}
 use Rattle.std.proofs.lemmas.Option.{same_Some, none-some}
 use Rattle.dts_tree.specs.Live.{last_of}
-use Rattle.dts_tree.specs.Arena.{is_gone, is_alive, last_slot, but_last}
+use Rattle.dts_tree.specs.Inner.Arena.{is_gone, is_alive, last_slot, but_last}
 use Rattle.dts_tree.proofs.Sweeping.{last_split, last_none}
-use Rattle.dts_tree.specs.Machine.{trimmed, alive_in}
+use Rattle.dts_tree.specs.Inner.Machine.{trimmed, alive_in}
 use Rattle.dts_tree.proofs.Lists.{Member, and_parts, and_both, filter_push, filter_drop, or_left, or_right}
 
 gone_by : (b : Bool) (gone : List Bool) (x i : ℕ) (xs ts us : List ℕ) → ts ≡ us → cond (b || false) (i ∷ ts) [] ≡ cond b (i ∷ us) []

@@ -12,8 +12,8 @@ use Rattle.dts_tree.specs.declared.spot.Spot.{Spot}
 use Rattle.dts_tree.specs.Places.{Place, place_eq, is_within}
 use Rattle.dts_tree.specs.Deeds.{Deed, deed, deletes, uncovered}
 use Rattle.dts_tree.specs.Live.{with_new, begins, begun, spots, is_there, labelled, labelled_in}
-use Rattle.dts_tree.specs.Arena.{ArenaData, is_gone, is_alive, child_of, spot, added, removed, root_arena, named, with_name, pushed}
-use Rattle.dts_tree.specs.Machine.{EventData, event, LabelsData, with_label, put_at, alive_in, stack_of, stack_at, trimmed, trimmed_at, labels_after, no_labels}
+use Rattle.dts_tree.specs.Inner.Arena.{ArenaData, is_gone, is_alive, child_of, spot, added, removed, root_arena, named, with_name, pushed}
+use Rattle.dts_tree.specs.Inner.Machine.{EventData, event, LabelsData, with_label, put_at, alive_in, stack_of, stack_at, trimmed, trimmed_at, labels_after, no_labels}
 use Rattle.dts_tree.proofs.Lists.{Member, any_find, any_give, all_at, all_from, all_append, not_true, member_of_filter, member_in_filter, member_in_map, member_of_map, member_in_range, member_of_range, range_more, filter_push, filter_drop, filter_shown, filter_alike, kept}
 use Rattle.dts_tree.proofs.PlaceLaws.{same_place, place_is, same_bytes, bytes_self}
 use Rattle.dts_tree.proofs.NameLaws.{named_same, named_other}

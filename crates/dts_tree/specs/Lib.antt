@@ -1,8 +1,7 @@
-pub mod Places
 pub mod Deeds
+pub mod Ends
+pub mod Inner
 pub mod Live
+pub mod Places
 pub mod Reading
 pub mod References
-pub mod Arena
-pub mod Machine
-pub mod Ends

@@ -2,7 +2,7 @@
 
 ghost use Rattle.std.specs.Prelude.{◌≡◌, Some, IfOk, OnOk, length, slice_index_or, []};
 ghost use Rattle.std.specs.Option.{option_and_then};
-ghost use Rattle.dts_tree.specs.Arena.{is_gone, there, child_of, grown, added, root_arena, entered, entered_slot, down, at_path, left_at, removed};
+ghost use Rattle.dts_tree.specs.Inner.Arena.{is_gone, there, child_of, grown, added, root_arena, entered, entered_slot, down, at_path, left_at, removed};
 ghost use Rattle.dts_tree.specs.declared.spot.Step.TheVariants as step;
 
 use crate::names::names_of;
@@ -27,7 +27,7 @@ pub(crate) struct Arena {
 }
 
 impl Model for Arena {
-    ghost use Rattle.dts_tree.specs.Arena.{ArenaData};
+    ghost use Rattle.dts_tree.specs.Inner.Arena.{ArenaData};
 
     ghost Value = { ArenaData };
 

@@ -2,8 +2,8 @@
 
 ghost use Rattle.std.specs.Prelude.{◌≡◌, ◌∷◌, ◌++◌, [], OnOk, length};
 ghost use Rattle.dts_tree.specs.Live.{last_of};
-ghost use Rattle.dts_tree.specs.Arena.{named, with_name, pushed};
-ghost use Rattle.dts_tree.specs.Machine.{with_label, no_labels, trimmed, alive_in, stack_of, labels_after};
+ghost use Rattle.dts_tree.specs.Inner.Arena.{named, with_name, pushed};
+ghost use Rattle.dts_tree.specs.Inner.Machine.{with_label, no_labels, trimmed, alive_in, stack_of, labels_after};
 
 use crate::arena::Arena;
 use crate::slots::Slots;
@@ -21,7 +21,7 @@ pub(crate) struct Labels {
 }
 
 impl Model for Labels {
-    ghost use Rattle.dts_tree.specs.Machine.{LabelsData};
+    ghost use Rattle.dts_tree.specs.Inner.Machine.{LabelsData};
 
     ghost Value = { LabelsData };
 

@@ -3,8 +3,8 @@
 ghost use Rattle.std.specs.Prelude.{◌≡◌, ◌++◌, ◌∷◌, [], Ok, IfOk, OnOk};
 ghost use Rattle.dts_parse.specs.ActForm.{act_data};
 ghost use Rattle.dts_parse.specs.declared.script.Act.TheVariants as act;
-ghost use Rattle.dts_tree.specs.Machine.{reader_start, here_slot, noted, named_slot, looked_up, entering, opened, opening_slot, without, without_child, deleting_slot, noted_child, marking_slot, labelling, carried, carried_on, event, Steps, Finds};
-ghost use Rattle.dts_tree.specs.Arena.{child_of};
+ghost use Rattle.dts_tree.specs.Inner.Machine.{reader_start, here_slot, noted, named_slot, looked_up, entering, opened, opening_slot, without, without_child, deleting_slot, noted_child, marking_slot, labelling, carried, carried_on, event, Steps, Finds};
+ghost use Rattle.dts_tree.specs.Inner.Arena.{child_of};
 ghost use Rattle.dts_tree.specs.declared.spot.Step.TheVariants as step;
 
 use crate::arena::Arena;
@@ -23,7 +23,7 @@ pub(crate) struct Event<'a> {
 }
 
 impl<'a> Model for Event<'a> {
-    ghost use Rattle.dts_tree.specs.Machine.{EventData};
+    ghost use Rattle.dts_tree.specs.Inner.Machine.{EventData};
     ghost use Rattle.dts_parse.specs.ActForm.{act_data};
 
     ghost Value = { EventData };
@@ -42,7 +42,7 @@ pub(crate) struct Reader<'a> {
 }
 
 impl<'a> Model for Reader<'a> {
-    ghost use Rattle.dts_tree.specs.Machine.{ReaderData};
+    ghost use Rattle.dts_tree.specs.Inner.Machine.{ReaderData};
 
     ghost Value = { ReaderData };
 

@@ -1,7 +1,7 @@
 //! Lists of slots.
 
 ghost use Rattle.std.specs.Prelude.{◌≡◌, ◌++◌, ◌∷◌, [], OnOk};
-ghost use Rattle.dts_tree.specs.Arena.{last_slot, but_last};
+ghost use Rattle.dts_tree.specs.Inner.Arena.{last_slot, but_last};
 
 use std::alloc::{AllocError, Global};
 use std::marker::Model;

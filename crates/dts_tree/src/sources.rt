@@ -1,7 +1,7 @@
 //! The statements of sources, carried out one after another.
 
 ghost use Rattle.std.specs.Prelude.{◌≡◌, ◌<◌, length};
-ghost use Rattle.dts_tree.specs.Machine.{carried_all, reader_start};
+ghost use Rattle.dts_tree.specs.Inner.Machine.{carried_all, reader_start};
 ghost use Rattle.dts_tree.specs.Ends.{EndsAs};
 ghost use Rattle.dts_tree.specs.Reading.{read_all, start};
 ghost use Rattle.dts_tree.specs.References.{or_fault, unnamed_fault, Answers, Tells, IsFault};

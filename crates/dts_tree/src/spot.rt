@@ -1,7 +1,7 @@
 //! Steps from a node to what stands in it, and where they lead.
 
 ghost use Rattle.std.specs.Prelude.{◌≡◌, OnOk};
-ghost use Rattle.dts_tree.specs.Arena.{named, lead_of, with_lead, no_leads};
+ghost use Rattle.dts_tree.specs.Inner.Arena.{named, lead_of, with_lead, no_leads};
 
 use edt_base::Text;
 use std::alloc::{AllocError, Global};
@@ -33,7 +33,7 @@ pub(crate) struct Leads {
 }
 
 impl Model for Leads {
-    ghost use Rattle.dts_tree.specs.Arena.{LeadsData};
+    ghost use Rattle.dts_tree.specs.Inner.Arena.{LeadsData};
 
     ghost Value = { LeadsData };
 

@@ -1,6 +1,6 @@
 -- The last of a stack is the one, or is dropped.
 use Rattle.std.proofs.Common.{◌≡◌, Bool, true, false, Some, None, rules, sym}
-use Rattle.dts_tree.specs.Arena.{last_slot, is_gone}
+use Rattle.dts_tree.specs.Inner.Arena.{last_slot, is_gone}
 use Rattle.dts_tree.proofs.Trimming.{turn_alive, turn_gone, turn_none}
 use Rattle.dts_tree.proofs.labels.last_there.Goals as goal
 

@@ -1,6 +1,6 @@
 -- Those that were dropped are gone.
 use Rattle.std.proofs.Common.{◌≡◌, length}
-use Rattle.dts_tree.specs.Machine.{trimmed, alive_in}
+use Rattle.dts_tree.specs.Inner.Machine.{trimmed, alive_in}
 use Rattle.dts_tree.proofs.labels.last_there.Given as goal
 
 abbrev pub invariant-loop-slot : goal.invariant-loop-slot

@@ -1,6 +1,6 @@
 -- A turn leaves what is left to do.
 use Rattle.std.proofs.Common.{◌≡◌, ◌++◌, ◌∷◌, [], rules}
-use Rattle.dts_tree.specs.Arena.{left_at}
+use Rattle.dts_tree.specs.Inner.Arena.{left_at}
 use Rattle.dts_tree.proofs.Shape.{below_at}
 use Rattle.dts_tree.proofs.SweepTurns.{swept_on}
 use Rattle.dts_tree.proofs.arena.Arena.remove.Goals as goal

@@ -1,6 +1,6 @@
 -- What is left to do gives what was wanted.
 use Rattle.std.proofs.Common.{◌≡◌}
-use Rattle.dts_tree.specs.Arena.{sweep, work, removed}
+use Rattle.dts_tree.specs.Inner.Arena.{sweep, work, removed}
 use Rattle.dts_tree.proofs.arena.Arena.remove.Given as goal
 
 abbrev pub invariant-loop-slot : goal.invariant-loop-slot

@@ -1,6 +1,6 @@
 -- The statements that are left lead from here to where all lead from the start.
 use Rattle.std.proofs.Common.{◌≡◌, [], drop}
-use Rattle.dts_tree.specs.Machine.{carried_on}
+use Rattle.dts_tree.specs.Inner.Machine.{carried_on}
 use Rattle.dts_tree.proofs.reader.Reader.read.Given as goal
 
 abbrev pub invariant-loop-stmt : goal.invariant-loop-stmt

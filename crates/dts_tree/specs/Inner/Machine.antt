@@ -7,7 +7,7 @@ use Rattle.dts_parse.specs.declared.script.Target.{Target}
 use Rattle.dts_parse.specs.declared.script.Target.TheVariants as target
 use Rattle.dts_tree.specs.declared.spot.Step.{Step}
 use Rattle.dts_tree.specs.declared.spot.Step.TheVariants.{Child, Prop}
-use Rattle.dts_tree.specs.Arena.{ArenaData, named, with_name, is_alive, child_of, entered, entered_slot, at_path, removed, root_arena, last_slot, but_last, pushed}
+use Rattle.dts_tree.specs.Inner.Arena.{ArenaData, named, with_name, is_alive, child_of, entered, entered_slot, at_path, removed, root_arena, last_slot, but_last, pushed}
 use Rattle.dts_tree.specs.Live.{last_of}
 use Rattle.dts_tree.specs.Reading.{Unnamed}
 use Rattle.dts_tree.specs.declared.stop.Stop.{Stop}
