@@ -99,17 +99,18 @@ chain_push within s c k l =
     let h : Place = unwrap_or (last_slot within) [] in
     let len : length (within ++ (s ∷ h) ∷ []) ≡ length within + 1 = length_push within (s ∷ h) in
     elim (cases_lt (suc k) (length within)) [
-      inl m ↦
-        let a : get_or (within ++ (s ∷ h) ∷ []) (suc k) [] ≡ get_or within (suc k) [] = get_or_append_left within ((s ∷ h) ∷ []) [] (suc k) m in
-        let b : get_or (within ++ (s ∷ h) ∷ []) k [] ≡ get_or within k [] = get_or_append_left within ((s ∷ h) ∷ []) [] k (omega arith) in
-        ap length a ∙ (c k m ∙ ap (λ q. suc (length q)) (sym b))
+      | inl m ↦
+          let a : get_or (within ++ (s ∷ h) ∷ []) (suc k) [] ≡ get_or within (suc k) [] = get_or_append_left within ((s ∷ h) ∷ []) [] (suc k) m in
+          let b : get_or (within ++ (s ∷ h) ∷ []) k [] ≡ get_or within k [] = get_or_append_left within ((s ∷ h) ∷ []) [] k (omega arith) in
+          ap length a ∙ (c k m ∙ ap (λ q. suc (length q)) (sym b))
       | inr m ↦
-        let e : length within ≡ suc k = omega arith in
-        let a : get_or (within ++ (s ∷ h) ∷ []) (suc k) [] ≡ s ∷ h = get_or_push within (s ∷ h) [] (suc k) e in
-        let b : get_or (within ++ (s ∷ h) ∷ []) k [] ≡ get_or within k [] = get_or_append_left within ((s ∷ h) ∷ []) [] k (omega arith) in
-        let f : length within - 1 ≡ k = omega arith in
-        let g : h ≡ get_or within k [] = last_or within (omega arith) ∙ ap (λ j. get_or within j []) f in
-        ap length a ∙ ap (λ q. suc (length q)) (g ∙ sym b) ]
+          let e : length within ≡ suc k = omega arith in
+          let a : get_or (within ++ (s ∷ h) ∷ []) (suc k) [] ≡ s ∷ h = get_or_push within (s ∷ h) [] (suc k) e in
+          let b : get_or (within ++ (s ∷ h) ∷ []) k [] ≡ get_or within k [] = get_or_append_left within ((s ∷ h) ∷ []) [] k (omega arith) in
+          let f : length within - 1 ≡ k = omega arith in
+          let g : h ≡ get_or within k [] = last_or within (omega arith) ∙ ap (λ j. get_or within j []) f in
+          ap length a ∙ ap (λ q. suc (length q)) (g ∙ sym b)
+    ]
 
 chain_closed : (within : List Place) → IsChain within → IsChain (but_last within)
 chain_closed within c k l =
@@ -219,22 +220,24 @@ trim_stacks : (gone : List Bool) (l : LabelsData) (o p : Option ℕ) → ((n : �
 trim_stacks gone l None p low = refl
 trim_stacks gone l (Some n) None low = refl
 trim_stacks gone l (Some n) (Some m) low = elim (cases_eq m n) [
-  inl e ↦
-    subst (λ x. alive_in gone (get_or (Rattle.std.proofs.Common.set l.stacks n (Rattle.dts_tree.specs.Inner.Machine.trimmed gone (get_or l.stacks n []))) x []) ≡ alive_in gone (get_or l.stacks x [])) (sym e)
-    (ap (alive_in gone) (Rattle.std.proofs.lemmas.List.get_or-set_same l.stacks n (Rattle.dts_tree.specs.Inner.Machine.trimmed gone (get_or l.stacks n [])) [] (low n refl))
-    ∙ alive_trimmed gone (get_or l.stacks n []))
-  | inr d ↦ ap (alive_in gone) (Rattle.std.proofs.lemmas.List.get_or-set_other l.stacks n m (Rattle.dts_tree.specs.Inner.Machine.trimmed gone (get_or l.stacks n [])) [] d) ]
+  | inl e ↦
+      subst (λ x. alive_in gone (get_or (Rattle.std.proofs.Common.set l.stacks n (Rattle.dts_tree.specs.Inner.Machine.trimmed gone (get_or l.stacks n []))) x []) ≡ alive_in gone (get_or l.stacks x [])) (sym e)
+      (ap (alive_in gone) (Rattle.std.proofs.lemmas.List.get_or-set_same l.stacks n (Rattle.dts_tree.specs.Inner.Machine.trimmed gone (get_or l.stacks n [])) [] (low n refl))
+      ∙ alive_trimmed gone (get_or l.stacks n []))
+  | inr d ↦ ap (alive_in gone) (Rattle.std.proofs.lemmas.List.get_or-set_other l.stacks n m (Rattle.dts_tree.specs.Inner.Machine.trimmed gone (get_or l.stacks n [])) [] d)
+]
 
 trim_bound : (gone : List Bool) (l : LabelsData) (o p : Option ℕ) (f : ℕ → Bool) → ((n : ℕ) → o ≡ Some n → n < length l.stacks)
     → ((q : Option ℕ) → (q ≡ p) ⊎ (q ≡ o) → list_all f (stack_at l q) ≡ true) → list_all f (stack_at (trimmed_at gone l o) p) ≡ true
 trim_bound gone l None p f low h = h p (inl refl)
 trim_bound gone l (Some n) None f low h = refl
 trim_bound gone l (Some n) (Some m) f low h = elim (cases_eq m n) [
-  inl e ↦
-    subst (λ x. list_all f (get_or (Rattle.std.proofs.Common.set l.stacks n (Rattle.dts_tree.specs.Inner.Machine.trimmed gone (get_or l.stacks n []))) x []) ≡ true) (sym e)
-    (subst (λ xs. list_all f xs ≡ true) (sym (Rattle.std.proofs.lemmas.List.get_or-set_same l.stacks n (Rattle.dts_tree.specs.Inner.Machine.trimmed gone (get_or l.stacks n [])) [] (low n refl)))
+  | inl e ↦
+      subst (λ x. list_all f (get_or (Rattle.std.proofs.Common.set l.stacks n (Rattle.dts_tree.specs.Inner.Machine.trimmed gone (get_or l.stacks n []))) x []) ≡ true) (sym e)
+      (subst (λ xs. list_all f xs ≡ true) (sym (Rattle.std.proofs.lemmas.List.get_or-set_same l.stacks n (Rattle.dts_tree.specs.Inner.Machine.trimmed gone (get_or l.stacks n [])) [] (low n refl)))
       (all_trimmed gone f (get_or l.stacks n []) (h (Some n) (inr refl))))
-  | inr d ↦ subst (λ xs. list_all f xs ≡ true) (sym (Rattle.std.proofs.lemmas.List.get_or-set_other l.stacks n m (Rattle.dts_tree.specs.Inner.Machine.trimmed gone (get_or l.stacks n [])) [] d)) (h (Some m) (inl refl)) ]
+  | inr d ↦ subst (λ xs. list_all f xs ≡ true) (sym (Rattle.std.proofs.lemmas.List.get_or-set_other l.stacks n m (Rattle.dts_tree.specs.Inner.Machine.trimmed gone (get_or l.stacks n [])) [] d)) (h (Some m) (inl refl))
+]
 
 trim_numbers : (gone : List Bool) (l : LabelsData) (o : Option ℕ) → ((trimmed_at gone l o).numbers ≡ l.numbers) × (length (trimmed_at gone l o).stacks ≡ length l.stacks)
 trim_numbers gone l None = (refl, refl)
@@ -247,7 +250,7 @@ tied_trim places a es l us k t =
     let low : (n : ℕ) → o ≡ Some n → n < length l.stacks = λ n h. t.numbered.low k n h in
     let same = trim_numbers a.gone l o in
     let at_name : (q : List ℕ) → stack_of (labels_after a.gone l k) q ≡ stack_at (trimmed_at a.gone l o) (Rattle.dts_tree.specs.Inner.Arena.named q l.numbers) = λ q.
-        ap (λ ns. stack_at (trimmed_at a.gone l o) (Rattle.dts_tree.specs.Inner.Arena.named q ns)) same.0 in
+    ap (λ ns. stack_at (trimmed_at a.gone l o) (Rattle.dts_tree.specs.Inner.Arena.named q ns)) same.0 in
     record {
       shape = t.shape;
       sound = t.sound;
@@ -255,12 +258,13 @@ tied_trim places a es l us k t =
       events = t.events;
       bound = t.bound;
       labels = λ q. ap (λ xs. map (place_at places) (alive_in a.gone xs)) (at_name q)
-        ∙ (ap (map (place_at places)) (trim_stacks a.gone l o (Rattle.dts_tree.specs.Inner.Arena.named q l.numbers) low) ∙ t.labels q);
+          ∙ (ap (map (place_at places)) (trim_stacks a.gone l o (Rattle.dts_tree.specs.Inner.Arena.named q l.numbers) low) ∙ t.labels q);
       stacked = λ q. subst (λ xs. list_all (Rattle.dts_tree.proofs.Tying.slot_below (length a.spots)) xs ≡ true) (sym (at_name q))
-        (trim_bound a.gone l o (Rattle.dts_tree.specs.Inner.Arena.named q l.numbers) (Rattle.dts_tree.proofs.Tying.slot_below (length a.spots)) low
+          (trim_bound a.gone l o (Rattle.dts_tree.specs.Inner.Arena.named q l.numbers) (Rattle.dts_tree.proofs.Tying.slot_below (length a.spots)) low
           (λ p h. elim h [
-            inl e ↦ subst (λ x. list_all (Rattle.dts_tree.proofs.Tying.slot_below (length a.spots)) (stack_at l x) ≡ true) (sym e) (t.stacked q)
-            | inr e ↦ subst (λ x. list_all (Rattle.dts_tree.proofs.Tying.slot_below (length a.spots)) (stack_at l x) ≡ true) (sym e) (t.stacked k) ]));
+            | inl e ↦ subst (λ x. list_all (Rattle.dts_tree.proofs.Tying.slot_below (length a.spots)) (stack_at l x) ≡ true) (sym e) (t.stacked q)
+            | inr e ↦ subst (λ x. list_all (Rattle.dts_tree.proofs.Tying.slot_below (length a.spots)) (stack_at l x) ≡ true) (sym e) (t.stacked k)
+          ]));
       numbered = record {
         low = λ q n h. subst (λ m. n < m) (sym same.1) (t.numbered.low q n (subst (λ ns. Rattle.dts_tree.specs.Inner.Arena.named q ns ≡ Some n) same.0 h));
         one = λ q m n g h. t.numbered.one q m n (subst (λ ns. Rattle.dts_tree.specs.Inner.Arena.named q ns ≡ Some n) same.0 g) (subst (λ ns. Rattle.dts_tree.specs.Inner.Arena.named m ns ≡ Some n) same.0 h);
@@ -293,14 +297,15 @@ none_below places a es l us p s t h = false_from_ne_true (is_there us (s ∷ p))
     let i : ℕ = r.0 in
     let w : i < length a.spots = subst (λ m. i < m) t.sound.gone (there_within a.gone i r.1) in
     elim (cases_eq i 0) [
-      inl z ↦
-        let bad : [] ≡ s ∷ p = sym t.shape.root ∙ (ap (place_at places) (sym z) ∙ r.2) in
-        absurd (cc)
+      | inl z ↦
+          let bad : [] ≡ s ∷ p = sym t.shape.root ∙ (ap (place_at places) (sym z) ∙ r.2) in
+          absurd (cc)
       | inr n ↦
-        let q : 0 < i = omega arith in
-        let both : step_at a.spots i ∷ place_at places (parent_at a.spots i) ≡ s ∷ p = sym (t.shape.steps i q w) ∙ r.2 in
-        let up : place_at places (parent_at a.spots i) ≡ p = cc in
-        true≢false (sym (subst (λ x. is_there us x ≡ true) up (slot_there places a es l us t (parent_at a.spots i) (t.sound.parents i q r.1))) ∙ h) ])
+          let q : 0 < i = omega arith in
+          let both : step_at a.spots i ∷ place_at places (parent_at a.spots i) ≡ s ∷ p = sym (t.shape.steps i q w) ∙ r.2 in
+          let up : place_at places (parent_at a.spots i) ≡ p = cc in
+          true≢false (sym (subst (λ x. is_there us x ≡ true) up (slot_there places a es l us t (parent_at a.spots i) (t.sound.parents i q r.1))) ∙ h)
+    ])
 
 step_down : (places : List Place) (a : ArenaData) (es : List EventData) (l : LabelsData) (us : List Deed) (i : ℕ) (p : Place) (s : Step) (o : Option ℕ)
     → IsTied places a es l us → is_gone a.gone i ≡ false → place_at places i ≡ p → child_of a i s ≡ o → IsDown places a us o (s ∷ p)

@@ -39,9 +39,9 @@ entered_tied r b s st act g d unlabelled =
     let h = here_is r b s in
     let e = tied_enter s.places r.arena r.events r.labels (live b) (here_slot r) st act (child_of r.arena (here_slot r) st) s.tied h.1 g unlabelled refl in
     let f = subst (λ p. Entered s.places r.arena (entered r.arena (here_slot r) st) (r.events ++ event (entered_slot r.arena (here_slot r) st) act ∷ []) r.labels
-        (live b ++ deed (st ∷ p) act ∷ []) (entered_slot r.arena (here_slot r) st) (st ∷ p)) h.0 e in
+    (live b ++ deed (st ∷ p) act ∷ []) (entered_slot r.arena (here_slot r) st) (st ∷ p)) h.0 e in
     subst (λ us. Entered s.places r.arena (entered r.arena (here_slot r) st) (r.events ++ event (entered_slot r.arena (here_slot r) st) act ∷ []) r.labels
-        us (entered_slot r.arena (here_slot r) st) (st ∷ here b)) (sym (uncovered_done b.deeds (deed (st ∷ here b) act) d)) f
+    us (entered_slot r.arena (here_slot r) st) (st ∷ here b)) (sym (uncovered_done b.deeds (deed (st ∷ here b) act) d)) f
 
 one_more : (b : Before) (p : Place) (act : ActData) → length (b.deeds ++ deed p act ∷ []) ≡ length b.deeds + 1
 one_more b p act = length_push b.deeds (deed p act)
@@ -71,7 +71,7 @@ opened_stands r b s n act g d unlabelled =
       places = e.more;
       tied = e.tied;
       opens = open_push s.places e.more r.arena (entered r.arena (here_slot r) (Child n)) r.within b.within (Child n)
-        (entered_slot r.arena (here_slot r) (Child n)) e.has.kept s.opens e.has.placed e.has.there;
+          (entered_slot r.arena (here_slot r) (Child n)) e.has.kept s.opens e.has.placed e.has.there;
       levels = omega arith;
     }
 
@@ -92,8 +92,8 @@ labelling_stands r b s k =
     record {
       places = s.places;
       tied = subst (λ us. IsTied s.places r.arena (r.events ++ event (here_slot r) (Label k) ∷ []) (Rattle.dts_tree.specs.Inner.Machine.with_label r.labels k (here_slot r)) us)
-        (sym (uncovered_done b.deeds (deed (here b) (Label k)) refl))
-        (subst (λ p. IsTied s.places r.arena (r.events ++ event (here_slot r) (Label k) ∷ []) (Rattle.dts_tree.specs.Inner.Machine.with_label r.labels k (here_slot r))
+          (sym (uncovered_done b.deeds (deed (here b) (Label k)) refl))
+          (subst (λ p. IsTied s.places r.arena (r.events ++ event (here_slot r) (Label k) ∷ []) (Rattle.dts_tree.specs.Inner.Machine.with_label r.labels k (here_slot r))
           (live b ++ deed p (Label k) ∷ [])) h.0 (tied_label s.places r.arena r.events r.labels (live b) (here_slot r) k s.tied h.1));
       opens = s.opens;
       levels = omega arith;
@@ -140,14 +140,14 @@ open_stays : (places : List Place) (a : ArenaData) (slots : List ℕ) (within : 
 open_stays places a slots within slot st shape sound op q g e = record {
   same = op.same;
   open_slots = all_from (is_alive (removed a slot).gone) slots (λ i m.
-    let alive : is_alive a.gone i ≡ true = all_at (is_alive a.gone) slots i op.open_slots m in
-    let in' : Member (place_at places i) within = subst (λ xs. Member (place_at places i) xs) op.same (member_in_map (place_at places) slots i m) in
-    let short : length (place_at places i) ≤ length (unwrap_or (last_slot within) []) = chain_short within op.chain (place_at places i) in' in
-    let long : length (place_at places slot) ≡ suc (length (unwrap_or (last_slot within) [])) = ap length e in
-    let out : is_within (place_at places slot) (place_at places i) ≡ false =
-    false_from_ne_true (is_within (place_at places slot) (place_at places i)) (λ w. absurd (omega (arith, within_longer (place_at places slot) (place_at places i) w))) in
-    alive_after places a slot shape sound q g i
-    ∙ Rattle.dts_tree.proofs.Lists.and_both (is_alive a.gone i) (not (is_within (place_at places slot) (place_at places i))) alive (not_from_false (is_within (place_at places slot) (place_at places i)) out));
+      let alive : is_alive a.gone i ≡ true = all_at (is_alive a.gone) slots i op.open_slots m in
+      let in' : Member (place_at places i) within = subst (λ xs. Member (place_at places i) xs) op.same (member_in_map (place_at places) slots i m) in
+      let short : length (place_at places i) ≤ length (unwrap_or (last_slot within) []) = chain_short within op.chain (place_at places i) in' in
+      let long : length (place_at places slot) ≡ suc (length (unwrap_or (last_slot within) [])) = ap length e in
+      let out : is_within (place_at places slot) (place_at places i) ≡ false =
+      false_from_ne_true (is_within (place_at places slot) (place_at places i)) (λ w. absurd (omega (arith, within_longer (place_at places slot) (place_at places i) w))) in
+      alive_after places a slot shape sound q g i
+      ∙ Rattle.dts_tree.proofs.Lists.and_both (is_alive a.gone i) (not (is_within (place_at places slot) (place_at places i))) alive (not_from_false (is_within (place_at places slot) (place_at places i)) out));
   chain = op.chain;
 }
 
@@ -288,7 +288,6 @@ root_tied = record {
   stacked = λ k. refl;
   numbered = record { low = λ k n h. absurd (none-some n h); one = λ k m n g h. absurd (none-some n g) };
 }
-
 
 without_stands : (r : ReaderData) (b : Before) (places : List Place) (slot : ℕ) (q : Place) (act : ActData) (c : Bool) → IsTied places r.arena r.events r.labels (live b)
     → length r.arena.spots ≤ suc (length b.deeds) → is_gone r.arena.gone slot ≡ false → place_at places slot ≡ q → deletes act ≡ true → eqb slot 0 ≡ c

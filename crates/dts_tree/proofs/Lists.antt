@@ -41,8 +41,9 @@ Member x (y ∷ ys) = (y ≡ x) ⊎ Member x ys
 pub any_find : {X : Type 0} (f : X → Bool) (xs : List X) → list_any f xs ≡ true → (x : X) × Member x xs × (f x ≡ true)
 any_find f [] e = absurd (false≢true e)
 any_find f (x ∷ xs) e = elim (or_cases (f x) (list_any f xs) e) [
-  inl h ↦ (x, inl refl, h)
-  | inr h ↦ let r = any_find f xs h in (r.0, inr r.1, r.2) ]
+  | inl h ↦ (x, inl refl, h)
+  | inr h ↦ let r = any_find f xs h in (r.0, inr r.1, r.2)
+]
 
 pub any_give : {X : Type 0} (f : X → Bool) (xs : List X) (x : X) → Member x xs → f x ≡ true → list_any f xs ≡ true
 any_give f [] x m e = absurd m
@@ -87,8 +88,9 @@ filter_by false p x y ys e m = inr m
 pub member_of_filter : {X : Type 0} (p : X → Bool) (xs : List X) (x : X) → Member x (filter p xs) → Member x xs × (p x ≡ true)
 member_of_filter p [] x m = absurd m
 member_of_filter p (y ∷ ys) x m = elim (filter_by (p y) p x y ys refl m) [
-  inl h ↦ (inl h.0, h.1)
-  | inr n ↦ let r = member_of_filter p ys x n in (inr r.0, r.1) ]
+  | inl h ↦ (inl h.0, h.1)
+  | inr n ↦ let r = member_of_filter p ys x n in (inr r.0, r.1)
+]
 
 keep_by : {X : Type 0} (b : Bool) (p : X → Bool) (x y : X) (ys : List X) → p y ≡ b → p x ≡ true → (y ≡ x) ⊎ Member x (filter p ys)
     → Member x (cond b (y ∷ filter p ys) (filter p ys))
@@ -118,8 +120,9 @@ range_first i a h = elim (true_or_false (eqb a i)) [ inl e ↦ grind (arith, Rat
 pub member_in_range : (i a n : ℕ) → a ≤ i → i < a + n → Member i (range_with_len a n)
 member_in_range i a zero low high = absurd (omega arith)
 member_in_range i a (suc n) low high = elim (range_first i a low) [
-  inl e ↦ inl e
-  | inr l ↦ inr (member_in_range i (a + 1) n l (omega arith)) ]
+  | inl e ↦ inl e
+  | inr l ↦ inr (member_in_range i (a + 1) n l (omega arith))
+]
 
 pub member_of_range : (i a n : ℕ) → Member i (range_with_len a n) → (a ≤ i) × (i < a + n)
 member_of_range i a zero m = absurd m

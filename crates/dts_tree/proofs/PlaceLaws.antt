@@ -54,5 +54,6 @@ within_cases p s q h = elim (or_cases (place_eq p (s ∷ q)) (is_within p q) h) 
 pub within_longer : (p q : Place) → is_within p q ≡ true → length p ≤ length q
 within_longer p [] h = let e : p ≡ [] = same_place p [] h in subst (λ r. length r ≤ 0) (sym e) (omega arith)
 within_longer p (s ∷ q) h = elim (within_cases p s q h) [
-  inl e ↦ subst (λ r. length r ≤ length (s ∷ q)) (sym e) (omega arith)
-  | inr w ↦ let l : length p ≤ length q = within_longer p q w in omega arith ]
+  | inl e ↦ subst (λ r. length r ≤ length (s ∷ q)) (sym e) (omega arith)
+  | inr w ↦ let l : length p ≤ length q = within_longer p q w in omega arith
+]

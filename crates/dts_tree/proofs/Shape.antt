@@ -62,20 +62,21 @@ apart_below (suc n) a places shape sound i j l g h e =
     let wi : i < length a.spots = subst (λ m. i < m) sound.gone (there_within a.gone i g) in
     let wj : j < length a.spots = subst (λ m. j < m) sound.gone (there_within a.gone j h) in
     elim (cases_eq i 0) [
-      inl iz ↦ elim (cases_eq j 0) [
-        inl jz ↦ iz ∙ sym jz
+      | inl iz ↦ elim (cases_eq j 0) [
+        | inl jz ↦ iz ∙ sym jz
         | inr jn ↦ let pj : 0 < j = omega arith in
             let s = shape.steps j pj wj in
             let r : place_at places i ≡ [] = ap (place_at places) iz ∙ shape.root in
             let bad : [] ≡ step_at a.spots j ∷ place_at places (parent_at a.spots j) = sym r ∙ (e ∙ s) in
-            absurd (cc) ]
+            absurd (cc)
+      ]
       | inr im ↦ let pi : 0 < i = omega arith in
           let si = shape.steps i pi wi in
           elim (cases_eq j 0) [
-            inl jz ↦
-              let r : place_at places j ≡ [] = ap (place_at places) jz ∙ shape.root in
-              let bad : [] ≡ step_at a.spots i ∷ place_at places (parent_at a.spots i) = sym r ∙ (sym e ∙ si) in
-              absurd (cc)
+            | inl jz ↦
+                let r : place_at places j ≡ [] = ap (place_at places) jz ∙ shape.root in
+                let bad : [] ≡ step_at a.spots i ∷ place_at places (parent_at a.spots i) = sym r ∙ (sym e ∙ si) in
+                absurd (cc)
             | inr jn ↦ let pj : 0 < j = omega arith in
                 let sj = shape.steps j pj wj in
                 let both : step_at a.spots i ∷ place_at places (parent_at a.spots i) ≡ step_at a.spots j ∷ place_at places (parent_at a.spots j) = sym si ∙ (e ∙ sj) in
@@ -88,7 +89,9 @@ apart_below (suc n) a places shape sound i j l g h e =
                 let lj = sound.led j pj h in
                 let re : lead_at a (parent_at a.spots j) (step_at a.spots j) ≡ Some i =
                 subst (λ p. lead_at a p (step_at a.spots j) ≡ Some i) same (subst (λ s. lead_at a (parent_at a.spots i) s ≡ Some i) steps li) in
-                same_Some i j (sym re ∙ lj) ] ]
+                same_Some i j (sym re ∙ lj)
+          ]
+    ]
 
 pub apart : (a : ArenaData) (places : List Place) → IsShaped a.spots places → IsSound a → (i j : ℕ)
     → is_gone a.gone i ≡ false → is_gone a.gone j ≡ false → place_at places i ≡ place_at places j → i ≡ j
@@ -126,10 +129,10 @@ child_found a places shape sound at i s g h e =
     let wi : i < length a.spots = subst (λ m. i < m) sound.gone (there_within a.gone i h) in
     let wat : at < length a.spots = subst (λ m. at < m) sound.gone (there_within a.gone at g) in
     elim (cases_eq i 0) [
-      inl z ↦
-        let r : place_at places i ≡ [] = ap (place_at places) z ∙ shape.root in
-        let bad : [] ≡ s ∷ place_at places at = sym r ∙ e in
-        absurd (cc)
+      | inl z ↦
+          let r : place_at places i ≡ [] = ap (place_at places) z ∙ shape.root in
+          let bad : [] ≡ s ∷ place_at places at = sym r ∙ e in
+          absurd (cc)
       | inr n ↦ let p : 0 < i = omega arith in
           let both : step_at a.spots i ∷ place_at places (parent_at a.spots i) ≡ s ∷ place_at places at = sym (shape.steps i p wi) ∙ e in
           let steps : step_at a.spots i ≡ s = cc in
@@ -137,4 +140,5 @@ child_found a places shape sound at i s g h e =
           let same : parent_at a.spots i ≡ at = apart a places shape sound (parent_at a.spots i) at (sound.parents i p h) g ups in
           let led : lead_at a at s ≡ Some i = subst (λ t. lead_at a t s ≡ Some i) same (subst (λ t. lead_at a (parent_at a.spots i) t ≡ Some i) steps (sound.led i p h)) in
           let low : at < length a.leads = subst (λ m. at < m) (sym sound.leads) wat in
-          child_from a at s low ∙ (ap (Rattle.std.specs.Option.option_and_then (there a.gone)) led ∙ ap (λ b. cond b None (Some i)) h) ]
+          child_from a at s low ∙ (ap (Rattle.std.specs.Option.option_and_then (there a.gone)) led ∙ ap (λ b. cond b None (Some i)) h)
+    ]

@@ -16,12 +16,13 @@ use Rattle.dts_tree.proofs.Shape.{IsShaped, IsSound, place_at, parent_at, step_a
 
 pub last_split : {X : Type 0} (xs : List X) (x : X) → last_slot xs ≡ Some x → xs ≡ but_last xs ++ x ∷ []
 last_split xs x h = elim (cases_lt (length xs - 1) (length xs)) [
-  inl l ↦
-    let here : get_or xs (length xs - 1) x ≡ x = same_Some (get_or xs (length xs - 1) x) x (sym (slice_get-get_or xs (length xs - 1) x l) ∙ h) in
-    let rest : drop (length xs - 1 + 1) xs ≡ [] = drop_all (length xs - 1 + 1) xs (omega arith) in
-    let back : drop (length xs - 1) xs ≡ x ∷ [] = drop_more xs (length xs - 1) x l ∙ (ap (λ t. get_or xs (length xs - 1) x ∷ t) rest ∙ ap (λ t. t ∷ []) here) in
-    sym (take-append-drop (length xs - 1) xs) ∙ ap (λ t. but_last xs ++ t) back
-  | inr l ↦ absurd (none-some x (sym (slice_get_past xs (length xs - 1) l) ∙ h)) ]
+  | inl l ↦
+      let here : get_or xs (length xs - 1) x ≡ x = same_Some (get_or xs (length xs - 1) x) x (sym (slice_get-get_or xs (length xs - 1) x l) ∙ h) in
+      let rest : drop (length xs - 1 + 1) xs ≡ [] = drop_all (length xs - 1 + 1) xs (omega arith) in
+      let back : drop (length xs - 1) xs ≡ x ∷ [] = drop_more xs (length xs - 1) x l ∙ (ap (λ t. get_or xs (length xs - 1) x ∷ t) rest ∙ ap (λ t. t ∷ []) here) in
+      sym (take-append-drop (length xs - 1) xs) ∙ ap (λ t. but_last xs ++ t) back
+  | inr l ↦ absurd (none-some x (sym (slice_get_past xs (length xs - 1) l) ∙ h))
+]
 
 pub last_none : {X : Type 0} (xs : List X) → last_slot xs ≡ None → xs ≡ []
 last_none [] h = refl
@@ -39,8 +40,9 @@ gone_other a id i n = get_or-set_other a.gone id i true true n
 
 below_here : (a : ArenaData) (id : ℕ) → below_at (left_at a id) id ≡ []
 below_here a id = elim (cases_lt id (length a.below)) [
-  inl l ↦ get_or-set_same a.below id [] [] l
-  | inr l ↦ ap (λ xs. get_or xs id []) (set_past a.below id [] l) ∙ get_or_past a.below id [] l ]
+  | inl l ↦ get_or-set_same a.below id [] [] l
+  | inr l ↦ ap (λ xs. get_or xs id []) (set_past a.below id [] l) ∙ get_or_past a.below id [] l
+]
 
 below_other : (a : ArenaData) (id i : ℕ) → (i ≡ id → ⊥) → below_at (left_at a id) i ≡ below_at a i
 below_other a id i n = get_or-set_other a.below id i [] [] n
@@ -69,9 +71,10 @@ sweep_start places old first shape sound p g = record {
   kept = λ i h. h;
   only = λ i h. inl h;
   waits = λ i m. elim m [
-    inl e ↦ subst (λ k. (is_within (place_at places first) (place_at places k) ≡ true) × (0 < k) × (k < length old.spots)) e
-      (within_self (place_at places first), p, subst (λ m. first < m) sound.gone (there_within old.gone first g))
-    | inr n ↦ absurd n ];
+    | inl e ↦ subst (λ k. (is_within (place_at places first) (place_at places k) ≡ true) × (0 < k) × (k < length old.spots)) e
+        (within_self (place_at places first), p, subst (λ m. first < m) sound.gone (there_within old.gone first g))
+    | inr n ↦ absurd n
+  ];
   begun = inr (inl refl);
   below = λ i. inl refl;
   closed = λ j q h. inr (sound.parents j q h, sound.listed j q h);
@@ -99,35 +102,47 @@ sweep_step places old now waiting w id first shape sound whole s =
       gone_len = length-set now.gone id true ∙ s.gone_len;
       below_len = length-set now.below id [] ∙ s.below_len;
       kept = λ i h. elim (cases_eq i id) [
-        inl e ↦ subst (λ k. is_gone (left_at now id).gone k ≡ true) (sym e) (gone_here now id low)
-        | inr n ↦ gone_other now id i n ∙ s.kept i h ];
+        | inl e ↦ subst (λ k. is_gone (left_at now id).gone k ≡ true) (sym e) (gone_here now id low)
+        | inr n ↦ gone_other now id i n ∙ s.kept i h
+      ];
       only = λ i h. elim (cases_eq i id) [
-        inl e ↦ inr (subst (λ k. is_within (place_at places first) (place_at places k) ≡ true) (sym e) here.0)
-        | inr n ↦ s.only i (sym (gone_other now id i n) ∙ h) ];
+        | inl e ↦ inr (subst (λ k. is_within (place_at places first) (place_at places k) ≡ true) (sym e) here.0)
+        | inr n ↦ s.only i (sym (gone_other now id i n) ∙ h)
+      ];
       waits = λ i m. elim (member_cases i w (below_at now id) m) [
-        inl n ↦ s.waits i (subst (λ l. Member i l) (sym whole) (member_left i w (id ∷ []) n))
-        | inr n ↦ waits_below places old now first id i shape sound here.0 (s.below id) n ];
+        | inl n ↦ s.waits i (subst (λ l. Member i l) (sym whole) (member_left i w (id ∷ []) n))
+        | inr n ↦ waits_below places old now first id i shape sound here.0 (s.below id) n
+      ];
       begun = elim s.begun [
-        inl g ↦ elim (cases_eq first id) [
-          inl e ↦ inl (subst (λ k. is_gone (left_at now id).gone k ≡ true) (sym e) (gone_here now id low))
-          | inr n ↦ inl (gone_other now id first n ∙ g) ]
+        | inl g ↦ elim (cases_eq first id) [
+          | inl e ↦ inl (subst (λ k. is_gone (left_at now id).gone k ≡ true) (sym e) (gone_here now id low))
+          | inr n ↦ inl (gone_other now id first n ∙ g)
+        ]
         | inr m ↦ elim (member_cases first w (id ∷ []) (subst (λ l. Member first l) whole m)) [
-          inl n ↦ inr (member_left first w (below_at now id) n)
+          | inl n ↦ inr (member_left first w (below_at now id) n)
           | inr n ↦ elim n [
-            inl e ↦ inl (subst (λ k. is_gone (left_at now id).gone k ≡ true) e (gone_here now id low))
-            | inr x ↦ absurd x ] ] ];
+            | inl e ↦ inl (subst (λ k. is_gone (left_at now id).gone k ≡ true) e (gone_here now id low))
+            | inr x ↦ absurd x
+          ]
+        ]
+      ];
       below = λ i. elim (cases_eq i id) [
-        inl e ↦ inr (subst (λ k. below_at (left_at now id) k ≡ []) (sym e) (below_here now id))
-        | inr n ↦ elim (s.below i) [ inl b ↦ inl (below_other now id i n ∙ b) | inr b ↦ inr (below_other now id i n ∙ b) ] ];
+        | inl e ↦ inr (subst (λ k. below_at (left_at now id) k ≡ []) (sym e) (below_here now id))
+        | inr n ↦ elim (s.below i) [ inl b ↦ inl (below_other now id i n ∙ b) | inr b ↦ inr (below_other now id i n ∙ b) ]
+      ];
       closed = λ j p h. elim (cases_eq j id) [
-        inl e ↦ absurd (true≢false (sym (gone_here now id low) ∙ subst (λ k. is_gone (left_at now id).gone k ≡ false) e h))
+        | inl e ↦ absurd (true≢false (sym (gone_here now id low) ∙ subst (λ k. is_gone (left_at now id).gone k ≡ false) e h))
         | inr n ↦ elim (s.closed j p (sym (gone_other now id j n) ∙ h)) [
-          inl m ↦ elim (member_cases j w (id ∷ []) (subst (λ l. Member j l) whole m)) [
-            inl k ↦ inl (member_left j w (below_at now id) k)
-            | inr k ↦ elim k [ inl e ↦ absurd (n (sym e)) | inr x ↦ absurd x ] ]
+          | inl m ↦ elim (member_cases j w (id ∷ []) (subst (λ l. Member j l) whole m)) [
+            | inl k ↦ inl (member_left j w (below_at now id) k)
+            | inr k ↦ elim k [ inl e ↦ absurd (n (sym e)) | inr x ↦ absurd x ]
+          ]
           | inr r ↦ elim (cases_eq (parent_at old.spots j) id) [
-            inl e ↦ inl (member_right j w (below_at now id) (subst (λ k. Member j (below_at now k)) e r.1))
-            | inr k ↦ inr (gone_other now id (parent_at old.spots j) k ∙ r.0, subst (λ l. Member j l) (sym (below_other now id (parent_at old.spots j) k)) r.1) ] ] ];
+            | inl e ↦ inl (member_right j w (below_at now id) (subst (λ k. Member j (below_at now k)) e r.1))
+            | inr k ↦ inr (gone_other now id (parent_at old.spots j) k ∙ r.0, subst (λ l. Member j l) (sym (below_other now id (parent_at old.spots j) k)) r.1)
+          ]
+        ]
+      ];
     }
 
 -- each turn is one less
@@ -136,15 +151,16 @@ work_falls a waiting w id whole =
     let one : length waiting ≡ length w + 1 = ap length whole ∙ length-append w (id ∷ []) in
     let two : length (w ++ below_at a id) ≡ length w + length (below_at a id) = length-append w (below_at a id) in
     elim (cases_lt id (length a.below)) [
-      inl l ↦
-        let s : sum_by (λ (l : List ℕ). length l) (set a.below id []) + length (below_at a id) ≡ sum_by (λ (l : List ℕ). length l) a.below + 0 =
-        sum_by-set (λ (l : List ℕ). length l) a.below id [] [] l in
-        omega arith
+      | inl l ↦
+          let s : sum_by (λ (l : List ℕ). length l) (set a.below id []) + length (below_at a id) ≡ sum_by (λ (l : List ℕ). length l) a.below + 0 =
+          sum_by-set (λ (l : List ℕ). length l) a.below id [] [] l in
+          omega arith
       | inr l ↦
-        let none : length (below_at a id) ≡ 0 = ap length (get_or_past a.below id [] l) in
-        let same : sum_by (λ (l : List ℕ). length l) (set a.below id []) ≡ sum_by (λ (l : List ℕ). length l) a.below =
-        ap (λ xs. sum_by (λ (l : List ℕ). length l) xs) (set_past a.below id [] l) in
-        omega arith ]
+          let none : length (below_at a id) ≡ 0 = ap length (get_or_past a.below id [] l) in
+          let same : sum_by (λ (l : List ℕ). length l) (set a.below id []) ≡ sum_by (λ (l : List ℕ). length l) a.below =
+          ap (λ xs. sum_by (λ (l : List ℕ). length l) xs) (set_past a.below id [] l) in
+          omega arith
+    ]
 
 sweep_on : (n : ℕ) (o : Option ℕ) (places : List Place) (old now : ArenaData) (waiting : List ℕ) (first : ℕ) → IsShaped old.spots places → IsSound old
     → last_slot waiting ≡ o → work now waiting ≤ suc n → IsSweeping places old now waiting first
@@ -177,23 +193,25 @@ below_gone (suc n) places old now first i shape sound g s l h w =
     let was : is_gone old.gone i ≡ false = elim (cases_Bool (is_gone old.gone i)) [ inl t ↦ absurd (true≢false (sym (s.kept i t) ∙ h)) | inr f ↦ f ] in
     let wi : i < length old.spots = subst (λ m. i < m) sound.gone (there_within old.gone i was) in
     let same_first : place_at places first ≡ place_at places i → ⊥ = λ e.
-        true≢false (sym first_gone ∙ subst (λ k. is_gone now.gone k ≡ false) (sym (apart old places shape sound first i g was e)) h) in
+    true≢false (sym first_gone ∙ subst (λ k. is_gone now.gone k ≡ false) (sym (apart old places shape sound first i g was e)) h) in
     elim (cases_eq i 0) [
-      inl z ↦
-        let r : place_at places i ≡ [] = ap (place_at places) z ∙ shape.root in
-        let e : is_within (place_at places first) [] ≡ true = subst (λ p. is_within (place_at places first) p ≡ true) r w in
-        same_first (Rattle.dts_tree.proofs.PlaceLaws.same_place (place_at places first) [] e ∙ sym r)
+      | inl z ↦
+          let r : place_at places i ≡ [] = ap (place_at places) z ∙ shape.root in
+          let e : is_within (place_at places first) [] ≡ true = subst (λ p. is_within (place_at places first) p ≡ true) r w in
+          same_first (Rattle.dts_tree.proofs.PlaceLaws.same_place (place_at places first) [] e ∙ sym r)
       | inr n0 ↦
-        let p : 0 < i = omega arith in
-        let s' = shape.steps i p wi in
-        let w' : is_within (place_at places first) (step_at old.spots i ∷ place_at places (parent_at old.spots i)) ≡ true =
-        subst (λ q. is_within (place_at places first) q ≡ true) s' w in
-        elim (within_cases (place_at places first) (step_at old.spots i) (place_at places (parent_at old.spots i)) w') [
-          inl e ↦ same_first (e ∙ sym s')
-          | inr up ↦
-            let parent : is_gone now.gone (parent_at old.spots i) ≡ false = elim (s.closed i p h) [ inl m ↦ absurd m | inr r ↦ r.0 ] in
-            let less : parent_at old.spots i < i = shape.parents i p wi in
-            below_gone n places old now first (parent_at old.spots i) shape sound g s (omega arith) parent up ] ]
+          let p : 0 < i = omega arith in
+          let s' = shape.steps i p wi in
+          let w' : is_within (place_at places first) (step_at old.spots i ∷ place_at places (parent_at old.spots i)) ≡ true =
+          subst (λ q. is_within (place_at places first) q ≡ true) s' w in
+          elim (within_cases (place_at places first) (step_at old.spots i) (place_at places (parent_at old.spots i)) w') [
+            | inl e ↦ same_first (e ∙ sym s')
+            | inr up ↦
+                let parent : is_gone now.gone (parent_at old.spots i) ≡ false = elim (s.closed i p h) [ inl m ↦ absurd m | inr r ↦ r.0 ] in
+                let less : parent_at old.spots i < i = shape.parents i p wi in
+                below_gone n places old now first (parent_at old.spots i) shape sound g s (omega arith) parent up
+          ]
+    ]
 
 alive_by : (b c : Bool) (i : ℕ) (gone : Bool) → (b ≡ true → gone ≡ true) → (gone ≡ true → (b ≡ true) ⊎ (c ≡ true)) → (gone ≡ false → c ≡ true → ⊥)
     → not gone ≡ (not b && not c)
@@ -219,28 +237,31 @@ sound_after places a first shape sound p g =
     let s = swept places a first shape sound p g in
     let now : ArenaData = removed a first in
     let was : (i : ℕ) → is_gone now.gone i ≡ false → is_gone a.gone i ≡ false = λ i h.
-        elim (cases_Bool (is_gone a.gone i)) [ inl t ↦ absurd (true≢false (sym (s.kept i t) ∙ h)) | inr f ↦ f ] in
+    elim (cases_Bool (is_gone a.gone i)) [ inl t ↦ absurd (true≢false (sym (s.kept i t) ∙ h)) | inr f ↦ f ] in
     record {
       gone = s.gone_len ∙ (sound.gone ∙ ap length (sym s.spots));
       below = s.below_len ∙ (sound.below ∙ ap length (sym s.spots));
       leads = ap length s.leads ∙ (sound.leads ∙ ap length (sym s.spots));
       root = elim (cases_Bool (is_gone now.gone 0)) [
-        inl t ↦ elim (s.only 0 t) [
-          inl e ↦ absurd (true≢false (sym e ∙ sound.root))
+        | inl t ↦ elim (s.only 0 t) [
+          | inl e ↦ absurd (true≢false (sym e ∙ sound.root))
           | inr w ↦
-            let wf : first < length a.spots = subst (λ m. first < m) sound.gone (there_within a.gone first g) in
-            let r : is_within (place_at places first) [] ≡ true = subst (λ q. is_within (place_at places first) q ≡ true) shape.root w in
-            let e : place_at places first ≡ [] = Rattle.dts_tree.proofs.PlaceLaws.same_place (place_at places first) [] r in
-            let bad : step_at a.spots first ∷ place_at places (parent_at a.spots first) ≡ [] = sym (shape.steps first p wf) ∙ e in
-            absurd (cc) ]
-        | inr f ↦ f ];
+              let wf : first < length a.spots = subst (λ m. first < m) sound.gone (there_within a.gone first g) in
+              let r : is_within (place_at places first) [] ≡ true = subst (λ q. is_within (place_at places first) q ≡ true) shape.root w in
+              let e : place_at places first ≡ [] = Rattle.dts_tree.proofs.PlaceLaws.same_place (place_at places first) [] r in
+              let bad : step_at a.spots first ∷ place_at places (parent_at a.spots first) ≡ [] = sym (shape.steps first p wf) ∙ e in
+              absurd (cc)
+        ]
+        | inr f ↦ f
+      ];
       parents = λ i q h. elim (s.closed i q h) [ inl m ↦ absurd m | inr r ↦ subst (λ sp. is_gone now.gone (parent_at sp i) ≡ false) (sym s.spots) r.0 ];
       listed = λ i q h. elim (s.closed i q h) [ inl m ↦ absurd m | inr r ↦ subst (λ sp. Member i (below_at now (parent_at sp i))) (sym s.spots) r.1 ];
       lists = λ i c m. elim (s.below i) [
-        inl e ↦ subst (λ sp. (0 < c) × (c < length sp) × (parent_at sp c ≡ i)) (sym s.spots) (sound.lists i c (subst (λ l. Member c l) e m))
-        | inr e ↦ absurd (subst (λ l. Member c l) e m) ];
+        | inl e ↦ subst (λ sp. (0 < c) × (c < length sp) × (parent_at sp c ≡ i)) (sym s.spots) (sound.lists i c (subst (λ l. Member c l) e m))
+        | inr e ↦ absurd (subst (λ l. Member c l) e m)
+      ];
       led = λ i q h. subst (λ sp. Rattle.dts_tree.proofs.Shape.lead_at now (parent_at sp i) (step_at sp i) ≡ Some i) (sym s.spots)
-        (subst (λ ls. Rattle.dts_tree.specs.Inner.Arena.lead_of (get_or ls (parent_at a.spots i) Rattle.dts_tree.specs.Inner.Arena.no_leads) (step_at a.spots i) ≡ Some i) (sym s.leads) (sound.led i q (was i h)));
+          (subst (λ ls. Rattle.dts_tree.specs.Inner.Arena.lead_of (get_or ls (parent_at a.spots i) Rattle.dts_tree.specs.Inner.Arena.no_leads) (step_at a.spots i) ≡ Some i) (sym s.leads) (sound.led i q (was i h)));
       leads_right = λ i j t h. subst (λ sp. (0 < j) × (j < length sp) × (parent_at sp j ≡ i) × (step_at sp j ≡ t)) (sym s.spots)
-        (sound.leads_right i j t (subst (λ ls. Rattle.dts_tree.specs.Inner.Arena.lead_of (get_or ls i Rattle.dts_tree.specs.Inner.Arena.no_leads) t ≡ Some j) s.leads h));
+          (sound.leads_right i j t (subst (λ ls. Rattle.dts_tree.specs.Inner.Arena.lead_of (get_or ls i Rattle.dts_tree.specs.Inner.Arena.no_leads) t ≡ Some j) s.leads h));
     }

@@ -88,17 +88,19 @@ pub turn_alive : (gone : List Bool) (stack first : List ℕ) (slot : ℕ) → la
     → trimmed gone stack ≡ trimmed gone first → alive_in gone stack ≡ alive_in gone first
     → (Some slot ≡ last_of (alive_in gone first)) × (stack ≡ trimmed gone first)
 turn_alive gone stack first slot e g t a =
-    let whole : stack ≡ but_last stack ++ slot ∷ [] = last_split stack slot e in
-    (sym (found_alive gone (but_last stack) slot g) ∙ (ap (λ xs. last_of (alive_in gone xs)) (sym whole) ∙ ap last_of a),
-    whole ∙ (sym (trim_alive gone (but_last stack) slot g) ∙ (ap (trimmed gone) (sym whole) ∙ t)))
+    let whole : stack ≡ but_last stack ++ slot ∷ [] = last_split stack slot e in (
+      sym (found_alive gone (but_last stack) slot g) ∙ (ap (λ xs. last_of (alive_in gone xs)) (sym whole) ∙ ap last_of a),
+      whole ∙ (sym (trim_alive gone (but_last stack) slot g) ∙ (ap (trimmed gone) (sym whole) ∙ t)),
+    )
 
 pub turn_gone : (gone : List Bool) (stack first : List ℕ) (slot : ℕ) → last_slot stack ≡ Some slot → is_gone gone slot ≡ true
     → trimmed gone stack ≡ trimmed gone first → alive_in gone stack ≡ alive_in gone first
     → (trimmed gone (but_last stack) ≡ trimmed gone first) × (alive_in gone (but_last stack) ≡ alive_in gone first)
 turn_gone gone stack first slot e g t a =
-    let whole : stack ≡ but_last stack ++ slot ∷ [] = last_split stack slot e in
-    (sym (trim_gone gone (but_last stack) slot g) ∙ (ap (trimmed gone) (sym whole) ∙ t),
-    sym (found_gone gone (but_last stack) slot g) ∙ (ap (alive_in gone) (sym whole) ∙ a))
+    let whole : stack ≡ but_last stack ++ slot ∷ [] = last_split stack slot e in (
+      sym (trim_gone gone (but_last stack) slot g) ∙ (ap (trimmed gone) (sym whole) ∙ t),
+      sym (found_gone gone (but_last stack) slot g) ∙ (ap (alive_in gone) (sym whole) ∙ a),
+    )
 
 pub turn_none : (gone : List Bool) (stack first : List ℕ) → last_slot stack ≡ None → trimmed gone stack ≡ trimmed gone first → alive_in gone stack ≡ alive_in gone first
     → (None ≡ last_of (alive_in gone first)) × (stack ≡ trimmed gone first)

@@ -104,8 +104,9 @@ there_stays us d b h = spots_begun us d b ∙ cond-true (list_any (place_eq d.at
 pub spots_same : (places : List Place) (a : ArenaData) (events : List EventData) (l : LabelsData) (us : List Deed) (slot : ℕ) (act : ActData) → IsTied places a events l us
     → is_gone a.gone slot ≡ false → spots (us ++ deed (place_at places slot) act ∷ []) ≡ spots us
 spots_same places a events l us slot act t g = elim (cases_Bool (begins act)) [
-  inl b ↦ there_stays us (deed (place_at places slot) act) b (slot_there places a events l us t slot g)
-  | inr b ↦ spots_other us (deed (place_at places slot) act) b ]
+  | inl b ↦ there_stays us (deed (place_at places slot) act) b (slot_there places a events l us t slot g)
+  | inr b ↦ spots_other us (deed (place_at places slot) act) b
+]
 
 events_more : (places : List Place) (a : ArenaData) (events : List EventData) (us : List Deed) (slot : ℕ) (act : ActData)
     → map (deed_of places) (filter (event_alive a.gone) events) ≡ us → is_gone a.gone slot ≡ false
@@ -164,29 +165,35 @@ stack_stays l k q slot (Some n) num e d = known_by l k q slot n (named q l.numbe
 
 same_or_not : (a b : List ℕ) → (a ≡ b) ⊎ (a ≡ b → ⊥)
 same_or_not a b = elim (cases_Bool (Rattle.std.specs.Str.bytes_eq a b)) [
-  inl e ↦ inl (same_bytes a b e)
-  | inr e ↦ inr (λ h. true≢false (sym (subst (λ u. Rattle.std.specs.Str.bytes_eq a u ≡ true) h (bytes_self a)) ∙ e)) ]
+  | inl e ↦ inl (same_bytes a b e)
+  | inr e ↦ inr (λ h. true≢false (sym (subst (λ u. Rattle.std.specs.Str.bytes_eq a u ≡ true) h (bytes_self a)) ∙ e))
+]
 
 new_low : (l : LabelsData) (k q : List ℕ) (n : ℕ) → AreNumbered l → named q (with_name l.numbers k (length l.stacks)) ≡ Some n
     → ((q ≡ k) × (n ≡ length l.stacks)) ⊎ (named q l.numbers ≡ Some n)
 new_low l k q n num h = elim (same_or_not q k) [
-  inl e ↦ inl (e, same_Some n (length l.stacks) (sym h ∙ (ap (λ x. named x (with_name l.numbers k (length l.stacks))) e ∙ named_same l.numbers k (length l.stacks))))
-  | inr d ↦ inr (sym (named_other l.numbers q k (length l.stacks) d) ∙ h) ]
+  | inl e ↦ inl (e, same_Some n (length l.stacks) (sym h ∙ (ap (λ x. named x (with_name l.numbers k (length l.stacks))) e ∙ named_same l.numbers k (length l.stacks))))
+  | inr d ↦ inr (sym (named_other l.numbers q k (length l.stacks) d) ∙ h)
+]
 
 numbered_put : (l : LabelsData) (k : List ℕ) (slot : ℕ) (o : Option ℕ) → AreNumbered l → named k l.numbers ≡ o → AreNumbered (put_at l k slot o)
 numbered_put l k slot None num e =
     let more : length (l.stacks ++ (slot ∷ []) ∷ []) ≡ length l.stacks + 1 = length_push l.stacks (slot ∷ []) in
     record {
       low = λ q n h. elim (new_low l k q n num h) [
-        inl r ↦ omega (arith, r.1)
-        | inr r ↦ omega (arith, num.low q n r) ];
+        | inl r ↦ omega (arith, r.1)
+        | inr r ↦ omega (arith, num.low q n r)
+      ];
       one = λ q m n g h. elim (new_low l k q n num g) [
-        inl r ↦ elim (new_low l k m n num h) [
-          inl s ↦ r.0 ∙ sym s.0
-          | inr s ↦ absurd (omega (arith, r.1, num.low m n s)) ]
+        | inl r ↦ elim (new_low l k m n num h) [
+          | inl s ↦ r.0 ∙ sym s.0
+          | inr s ↦ absurd (omega (arith, r.1, num.low m n s))
+        ]
         | inr r ↦ elim (new_low l k m n num h) [
-          inl s ↦ absurd (omega (arith, s.1, num.low q n r))
-          | inr s ↦ num.one q m n r s ] ];
+          | inl s ↦ absurd (omega (arith, s.1, num.low q n r))
+          | inr s ↦ num.one q m n r s
+        ]
+      ];
     }
 numbered_put l k slot (Some n) num e = record {
   low = λ q m h. subst (λ x. m < x) (sym (length-set l.stacks n (get_or l.stacks n [] ++ slot ∷ []))) (num.low q m h);
@@ -216,18 +223,20 @@ tied_label places a events l us slot k t g =
       events = events_more places a events us slot (Label k) t.events g;
       bound = bound_more a events slot (Label k) t.sound t.bound g;
       labels = λ q. elim (same_or_not q k) [
-        inl e ↦ subst (λ x. map (place_at places) (alive_in a.gone (stack_of (with_label l k slot) x)) ≡ labelled (us ++ deed (place_at places slot) (Label k) ∷ []) x) (sym e)
-          (ap (λ xs. map (place_at places) (alive_in a.gone xs)) push
-          ∙ (ap (map (place_at places)) (filter_push (is_alive a.gone) (stack_of l k) slot (not_from_false (is_gone a.gone slot) g))
-          ∙ (map-append (place_at places) (alive_in a.gone (stack_of l k)) (slot ∷ [])
-          ∙ (ap (λ xs. xs ++ place_at places slot ∷ []) (t.labels k) ∙ sym (labelled_same us (place_at places slot) k)))))
-        | inr d ↦ ap (λ xs. map (place_at places) (alive_in a.gone xs)) (stays q d) ∙ (t.labels q ∙ sym (labelled_other us (place_at places slot) k q d)) ];
+        | inl e ↦ subst (λ x. map (place_at places) (alive_in a.gone (stack_of (with_label l k slot) x)) ≡ labelled (us ++ deed (place_at places slot) (Label k) ∷ []) x) (sym e)
+            (ap (λ xs. map (place_at places) (alive_in a.gone xs)) push
+            ∙ (ap (map (place_at places)) (filter_push (is_alive a.gone) (stack_of l k) slot (not_from_false (is_gone a.gone slot) g))
+            ∙ (map-append (place_at places) (alive_in a.gone (stack_of l k)) (slot ∷ [])
+            ∙ (ap (λ xs. xs ++ place_at places slot ∷ []) (t.labels k) ∙ sym (labelled_same us (place_at places slot) k)))))
+        | inr d ↦ ap (λ xs. map (place_at places) (alive_in a.gone xs)) (stays q d) ∙ (t.labels q ∙ sym (labelled_other us (place_at places slot) k q d))
+      ];
       stacked = λ q. elim (same_or_not q k) [
-        inl e ↦ subst (λ x. list_all (slot_below (length a.spots)) (stack_of (with_label l k slot) x) ≡ true) (sym e)
-          (subst (λ xs. list_all (slot_below (length a.spots)) xs ≡ true) (sym push)
+        | inl e ↦ subst (λ x. list_all (slot_below (length a.spots)) (stack_of (with_label l k slot) x) ≡ true) (sym e)
+            (subst (λ xs. list_all (slot_below (length a.spots)) xs ≡ true) (sym push)
             (all_append (slot_below (length a.spots)) (stack_of l k) (slot ∷ []) (t.stacked k)
-              (Rattle.dts_tree.proofs.Lists.and_both (slot_below (length a.spots) slot) true (lt-ltb slot (length a.spots) w) refl)))
-        | inr d ↦ subst (λ xs. list_all (slot_below (length a.spots)) xs ≡ true) (sym (stays q d)) (t.stacked q) ];
+            (Rattle.dts_tree.proofs.Lists.and_both (slot_below (length a.spots) slot) true (lt-ltb slot (length a.spots) w) refl)))
+        | inr d ↦ subst (λ xs. list_all (slot_below (length a.spots)) xs ≡ true) (sym (stays q d)) (t.stacked q)
+      ];
       numbered = numbered_put l k slot (named k l.numbers) t.numbered refl;
     }
 
@@ -244,44 +253,44 @@ tied_add places a events l us at s act t g none b unlabelled =
     let w : at < n = subst (λ m. at < m) t.sound.gone (there_within a.gone at g) in
     let len : length new.spots ≡ n + 1 = length_push a.spots (spot s at) in
     let alive_old : (i : ℕ) → i < n → is_alive new.gone i ≡ is_alive a.gone i = λ i h.
-        ap not (get_or_append_left a.gone (false ∷ []) true i (subst (λ m. i < m) (sym t.sound.gone) h)) in
+    ap not (get_or_append_left a.gone (false ∷ []) true i (subst (λ m. i < m) (sym t.sound.gone) h)) in
     let alive_new : is_alive new.gone n ≡ true = ap not (get_or_push a.gone false true n t.sound.gone) in
     let placed : (i : ℕ) → i < n → place_at more i ≡ place_at places i = λ i h.
-        get_or_append_left places (p ∷ []) [] i (subst (λ m. i < m) (sym t.shape.sized) h) in
+    get_or_append_left places (p ∷ []) [] i (subst (λ m. i < m) (sym t.shape.sized) h) in
     let placed_new : place_at more n ≡ p = get_or_push places p [] n t.shape.sized in
     let shown : (xs : List ℕ) → ((i : ℕ) → Member i xs → i < n) → map (place_at more) (alive_in new.gone xs) ≡ map (place_at places) (alive_in a.gone xs) = λ xs low.
-        filter_alike (is_alive a.gone) (is_alive new.gone) (place_at places) (place_at more) xs (λ i m. (alive_old i (low i m), placed i (low i m))) in
+    filter_alike (is_alive a.gone) (is_alive new.gone) (place_at places) (place_at more) xs (λ i m. (alive_old i (low i m), placed i (low i m))) in
     let event_new : event_alive new.gone (event n act) ≡ true = alive_new in
     record {
       shape = shaped_more a.spots places at s t.shape w;
       sound = sound_more a places at s t.shape t.sound g none;
       slots =
-        ap (λ m. map (place_at more) (filter (is_alive new.gone) (range_with_len 0 m))) len
-        ∙ (ap (λ xs. map (place_at more) (filter (is_alive new.gone) xs)) (range_more 0 n)
-        ∙ (ap (map (place_at more)) (filter_push (is_alive new.gone) (range_with_len 0 n) (0 + n) (let z : 0 + n ≡ n = omega arith in ap (is_alive new.gone) z ∙ alive_new))
-        ∙ (map-append (place_at more) (filter (is_alive new.gone) (range_with_len 0 n)) ((0 + n) ∷ [])
-        ∙ (ap (λ xs. xs ++ place_at more (0 + n) ∷ []) (shown (range_with_len 0 n) (λ i m. let r = member_of_range i 0 n m in omega (arith, r.1)) ∙ t.slots)
-        ∙ (ap (λ q. spots us ++ q ∷ []) (let z : 0 + n ≡ n = omega arith in ap (place_at more) z ∙ placed_new)
-        ∙ sym (spots_begun us (deed p act) b ∙ cond-false (list_any (place_eq p) (spots us)) (spots us) (spots us ++ p ∷ []) (none_there places a events l us t at s g none)))))));
+          ap (λ m. map (place_at more) (filter (is_alive new.gone) (range_with_len 0 m))) len
+          ∙ (ap (λ xs. map (place_at more) (filter (is_alive new.gone) xs)) (range_more 0 n)
+          ∙ (ap (map (place_at more)) (filter_push (is_alive new.gone) (range_with_len 0 n) (0 + n) (let z : 0 + n ≡ n = omega arith in ap (is_alive new.gone) z ∙ alive_new))
+          ∙ (map-append (place_at more) (filter (is_alive new.gone) (range_with_len 0 n)) ((0 + n) ∷ [])
+          ∙ (ap (λ xs. xs ++ place_at more (0 + n) ∷ []) (shown (range_with_len 0 n) (λ i m. let r = member_of_range i 0 n m in omega (arith, r.1)) ∙ t.slots)
+          ∙ (ap (λ q. spots us ++ q ∷ []) (let z : 0 + n ≡ n = omega arith in ap (place_at more) z ∙ placed_new)
+          ∙ sym (spots_begun us (deed p act) b ∙ cond-false (list_any (place_eq p) (spots us)) (spots us) (spots us ++ p ∷ []) (none_there places a events l us t at s g none)))))));
       events =
-        ap (map (deed_of more)) (filter_push (event_alive new.gone) events (event n act) event_new)
-        ∙ (map-append (deed_of more) (filter (event_alive new.gone) events) (event n act ∷ [])
-        ∙ (ap (λ xs. xs ++ deed_of more (event n act) ∷ [])
+          ap (map (deed_of more)) (filter_push (event_alive new.gone) events (event n act) event_new)
+          ∙ (map-append (deed_of more) (filter (event_alive new.gone) events) (event n act ∷ [])
+          ∙ (ap (λ xs. xs ++ deed_of more (event n act) ∷ [])
           (filter_alike (event_alive a.gone) (event_alive new.gone) (deed_of places) (deed_of more) events
-            (λ e m. let low : e.slot < n = ltb-true e.slot n (all_at (event_below n) events e t.bound m) in
-              (alive_old e.slot low, ap (λ q. deed q e.act) (placed e.slot low)))
+          (λ e m. let low : e.slot < n = ltb-true e.slot n (all_at (event_below n) events e t.bound m) in
+          (alive_old e.slot low, ap (λ q. deed q e.act) (placed e.slot low)))
           ∙ t.events)
-        ∙ ap (λ q. us ++ deed q act ∷ []) placed_new));
+          ∙ ap (λ q. us ++ deed q act ∷ []) placed_new));
       bound = subst (λ m. list_all (event_below m) (events ++ event n act ∷ []) ≡ true) (sym len)
-        (all_append (event_below (n + 1)) events (event n act ∷ [])
+          (all_append (event_below (n + 1)) events (event n act ∷ [])
           (all_from (event_below (n + 1)) events (λ e m.
-            let low : e.slot < n = ltb-true e.slot n (all_at (event_below n) events e t.bound m) in
-            lt-ltb e.slot (n + 1) (omega arith)))
+          let low : e.slot < n = ltb-true e.slot n (all_at (event_below n) events e t.bound m) in
+          lt-ltb e.slot (n + 1) (omega arith)))
           (Rattle.dts_tree.proofs.Lists.and_both (event_below (n + 1) (event n act)) true (lt-ltb n (n + 1) (omega arith)) refl));
       labels = λ k. shown (stack_of l k) (λ i m. ltb-true i n (all_at (slot_below n) (stack_of l k) i (t.stacked k) m))
-        ∙ (t.labels k ∙ sym (no_more us (deed p act) k (unlabelled k p)));
+          ∙ (t.labels k ∙ sym (no_more us (deed p act) k (unlabelled k p)));
       stacked = λ k. subst (λ m. list_all (slot_below m) (stack_of l k) ≡ true) (sym len)
-        (all_from (slot_below (n + 1)) (stack_of l k) (λ i m.
+          (all_from (slot_below (n + 1)) (stack_of l k) (λ i m.
           let low : i < n = ltb-true i n (all_at (slot_below n) (stack_of l k) i (t.stacked k) m) in
           lt-ltb i (n + 1) (omega arith)));
       numbered = t.numbered;
@@ -318,17 +327,17 @@ tied_remove places a events l us first t q g =
       shape = subst (λ sp. IsShaped sp places) (sym s.spots) t.shape;
       sound = sound_after places a first t.shape t.sound q g;
       slots =
-        ap (λ m. map (place_at places) (filter (is_alive new.gone) (range_with_len 0 m))) same
-        ∙ (filter_shown (is_alive a.gone) (is_alive new.gone) (place_at places) k alive (range_with_len 0 (length a.spots))
-        ∙ (ap (filter k) t.slots ∙ sym (spots_kept k us root)));
+          ap (λ m. map (place_at places) (filter (is_alive new.gone) (range_with_len 0 m))) same
+          ∙ (filter_shown (is_alive a.gone) (is_alive new.gone) (place_at places) k alive (range_with_len 0 (length a.spots))
+          ∙ (ap (filter k) t.slots ∙ sym (spots_kept k us root)));
       events =
-        filter_shown (event_alive a.gone) (event_alive new.gone) (deed_of places) (λ (d : Deed). k d.at) (λ e. alive e.slot) events
-        ∙ ap (filter (λ (d : Deed). k d.at)) t.events;
+          filter_shown (event_alive a.gone) (event_alive new.gone) (deed_of places) (λ (d : Deed). k d.at) (λ e. alive e.slot) events
+          ∙ ap (filter (λ (d : Deed). k d.at)) t.events;
       bound = subst (λ m. list_all (event_below m) events ≡ true) (sym same) t.bound;
       labels = λ n.
-        filter_shown (is_alive a.gone) (is_alive new.gone) (place_at places) k alive (stack_of l n)
-        ∙ (ap (filter k) (t.labels n)
-        ∙ sym (kept (λ (d : Deed). labelled_in n d.at d.act) (λ (d : Deed). k d.at) k (λ d y h. ap k (labelled_at n d.at d.act y h)) us));
+          filter_shown (is_alive a.gone) (is_alive new.gone) (place_at places) k alive (stack_of l n)
+          ∙ (ap (filter k) (t.labels n)
+          ∙ sym (kept (λ (d : Deed). labelled_in n d.at d.act) (λ (d : Deed). k d.at) k (λ d y h. ap k (labelled_at n d.at d.act y h)) us));
       stacked = λ n. subst (λ m. list_all (slot_below m) (stack_of l n) ≡ true) (sym same) (t.stacked n);
       numbered = t.numbered;
     }

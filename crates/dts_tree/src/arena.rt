@@ -95,7 +95,12 @@ impl Arena {
     }
 
     /// The slot of a child, which is begun where it isn't there.
-    pub(crate) fn enter_child(&mut self, alloc: Global, at: usize, name: &Text) -> Result<usize, AllocError>
+    pub(crate) fn enter_child(
+        &mut self,
+        alloc: Global,
+        at: usize,
+        name: &Text,
+    ) -> Result<usize, AllocError>
         ensures entered { OnOk result (self.new ≡ entered self.old at (step.Child name.now)) }
         ensures slot { IfOk result (λ id. id ≡ entered_slot self.old at (step.Child name.now)) }
     {
@@ -106,7 +111,12 @@ impl Arena {
     }
 
     /// The slot of a property, which is begun where it isn't there.
-    pub(crate) fn enter_prop(&mut self, alloc: Global, at: usize, name: &Text) -> Result<usize, AllocError>
+    pub(crate) fn enter_prop(
+        &mut self,
+        alloc: Global,
+        at: usize,
+        name: &Text,
+    ) -> Result<usize, AllocError>
         ensures entered { OnOk result (self.new ≡ entered self.old at (step.Prop name.now)) }
         ensures slot { IfOk result (λ id. id ≡ entered_slot self.old at (step.Prop name.now)) }
     {

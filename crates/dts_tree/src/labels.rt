@@ -67,8 +67,9 @@ impl Labels {
 
     fn push_new(&mut self, alloc: Global, label: Text, slot: usize) -> Result<(), AllocError>
         ensures { OnOk result (self.new ≡ record {
-            numbers = with_name self.old.numbers label (length self.old.stacks);
-            stacks = self.old.stacks ++ (slot ∷ []) ∷ [] }) }
+          numbers = with_name self.old.numbers label (length self.old.stacks);
+          stacks = self.old.stacks ++ (slot ∷ []) ∷ [];
+        }) }
     {
         let number = self.stacks.len();
         let mut stack = Slots::new(alloc);

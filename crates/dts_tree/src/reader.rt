@@ -110,7 +110,11 @@ impl<'a> Reader<'a> {
     }
 
     // The node that a reference names.
-    pub(crate) fn named(&mut self, alloc: Global, target: &Target) -> Result<Option<usize>, AllocError>
+    pub(crate) fn named(
+        &mut self,
+        alloc: Global,
+        target: &Target,
+    ) -> Result<Option<usize>, AllocError>
         ensures named { IfOk result (λ o. o ≡ named_slot self.old target.now) }
         ensures left { OnOk result (self.new ≡ looked_up self.old target.now) }
     {

@@ -64,13 +64,18 @@ leading ls i step id = slice_set ls i (with_lead (slice_index_or ls i no_leads) 
 -- one slot more
 abbrev pub grown : ArenaData → Step → ℕ → ArenaData
 grown a step parent = record {
-    spots = a.spots ++ spot step parent ∷ []; gone = a.gone ++ false ∷ [];
-    below = a.below ++ [] ∷ []; leads = a.leads ++ no_leads ∷ [] }
+  spots = a.spots ++ spot step parent ∷ [];
+  gone = a.gone ++ false ∷ [];
+  below = a.below ++ [] ∷ [];
+  leads = a.leads ++ no_leads ∷ [];
+}
 
 -- the same, where the node in which it stands knows of it
 abbrev pub added : ArenaData → ℕ → Step → ArenaData
 added a at step = grown (record a {
-    below = pushed a.below at (length a.spots); leads = leading a.leads at step (length a.spots) }) step at
+  below = pushed a.below at (length a.spots);
+  leads = leading a.leads at step (length a.spots);
+}) step at
 
 abbrev pub root_arena : ArenaData
 root_arena = grown (record { spots = []; gone = []; below = []; leads = [] }) (Child []) 0

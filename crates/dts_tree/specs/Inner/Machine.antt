@@ -95,8 +95,9 @@ noted r slot act = record r { events = r.events ++ event slot act ∷ [] }
 -- the slot of a step from the innermost node, begun where it isn't there, and the statement that speaks of it
 abbrev pub entering : ReaderData → Step → ActData → ReaderData
 entering r step act = record r {
-    arena = entered r.arena (here_slot r) step;
-    events = r.events ++ event (entered_slot r.arena (here_slot r) step) act ∷ [] }
+  arena = entered r.arena (here_slot r) step;
+  events = r.events ++ event (entered_slot r.arena (here_slot r) step) act ∷ [];
+}
 
 abbrev pub opened : ReaderData → List ℕ → ActData → ReaderData
 opened r n act = record (entering r (Child n) act) { within = r.within ++ entered_slot r.arena (here_slot r) (Child n) ∷ [] }
