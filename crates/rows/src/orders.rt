@@ -28,8 +28,18 @@ fn shown(alloc: Global, needs: &Vec<Vec<NodeId>>) -> Result<String, AllocError> 
     }
     match order(alloc, needs) {
         Ok(ids) => places(alloc, ids.as_slice()),
-        Err(OrderEnd::Cycle(id)) => format!(in alloc; "cycle {}", id.0),
-        Err(OrderEnd::Memory(e)) => Err(e),
+        Err(end) => why(alloc, &end),
+    }
+}
+
+/// Why there is no order, as text.
+fn why(alloc: Global, end: &OrderEnd) -> Result<String, AllocError> {
+    match end {
+        OrderEnd::Cycle(id) => {
+            let number = id.0;
+            format!(in alloc; "cycle {number}")
+        }
+        OrderEnd::Memory(_) => Err(AllocError),
     }
 }
 
