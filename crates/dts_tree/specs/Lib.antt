@@ -1,0 +1,10 @@
+pub mod Places
+pub mod Deeds
+pub mod Live
+pub mod Reading
+pub mod Whole
+pub mod Limits
+pub mod Drafts
+pub mod Final
+pub mod Rules
+pub mod Outcome

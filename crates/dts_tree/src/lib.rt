@@ -1,0 +1,23 @@
+//! The tree that the statements of devicetree sources leave (Devicetree Specification v0.4,
+//! chapters 2 and 6), or the first broken rule.
+#![tactic(auto)]
+
+mod arena;
+mod build;
+mod draft;
+mod finish;
+mod grown;
+mod labels;
+mod names;
+mod order;
+mod parts;
+mod phandles;
+mod reader;
+mod rules;
+mod slots;
+mod spot;
+mod stop;
+#[cfg(test)]
+mod tests;
+
+pub use build::build;
