@@ -8,10 +8,7 @@ use dts_print::print;
 use dts_tree::build;
 use edt_base::{End, Sink, Text, WriteFailed};
 use std::alloc::Global;
-use std::env;
-use std::fs;
-use std::io;
-use std::io::Write;
+use std::io::{Read, Write};
 use std::process::ExitCode;
 
 #[derive(Drop)]
@@ -33,10 +30,14 @@ fn main(rt: HostRuntime) -> anyhow::Result<ExitCode> {
     let mut files = Vec::new(alloc);
     let mut scripts = Vec::new(alloc);
     let mut base = true;
-    for word in env::args(&rt)?.skip(1) {
-        let bytes = fs::read(&rt, word.as_str())?;
-        let name = Text::new(word);
-        match parse(alloc, &name, bytes.as_slice(), base) {
+    let mut all = Vec::new(alloc);
+    rt.reader().read_to_end(&mut all)?;
+    for piece in all.as_slice().split(|b| *b == 2) {
+        let mut halves = piece.split(|b| *b == 1);
+        let name = halves.next().unwrap_or(&[]);
+        let Some(bytes) = halves.next() else { break; };
+        let name = Text::new(String::from_str(alloc, str::from_utf8(name).unwrap_or("?"))?);
+        match parse(alloc, &name, bytes, base) {
             Ok(s) => scripts.push(s).map_err(|_| anyhow::anyhow!("memory"))?,
             Err(e) => { return said(&rt, e); }
         }
