@@ -8,3 +8,6 @@ pub mod Drafts
 pub mod Final
 pub mod Rules
 pub mod Outcome
+pub mod Arena
+pub mod Machine
+pub mod Slots

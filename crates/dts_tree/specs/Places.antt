@@ -56,15 +56,10 @@ abbrev pub path_text : Place → List ℕ
 path_text [] = codes "/"
 path_text (s ∷ p) = below_text (s ∷ p)
 
--- the names of a path's text: what stands between its slashes, where that isn't empty
-abbrev pub is_named : List ℕ → Bool
-is_named [] = false
-is_named (b ∷ rest) = true
-
+-- the node of a path's text: of what stands between its slashes, that which isn't empty is a name
 abbrev pub one_below : Place → List ℕ → Place
 one_below p [] = p
 one_below p (b ∷ rest) = Child (b ∷ rest) ∷ p
 
--- the node of a path's text
 abbrev pub place_of : List ℕ → Place
 place_of text = fold one_below [] (slice_split (λ b. nat_eq b 47) text)

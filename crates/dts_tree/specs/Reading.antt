@@ -1,5 +1,5 @@
 -- What statements do one after another, and the first reference of a statement that names no node.
-use Rattle.std.specs.Prelude.{ℕ, suc, Bool, true, false, List, [], ◌∷◌, ◌++◌, Option, Some, None, Result, Ok, Err, if◌then◌else◌}
+use Rattle.std.specs.Prelude.{ℕ, suc, Bool, true, false, List, [], ◌∷◌, ◌++◌, Option, Some, None, Result, Ok, Err, ◌-◌, length, slice_get, take, unwrap_or, if◌then◌else◌}
 use Rattle.dts_parse.specs.StmtData.{ActData, StmtData, Open, Close, Label, Assign, DelProp, DelNode, Omit}
 use Rattle.dts_parse.specs.declared.script.Target.{Target}
 use Rattle.dts_parse.specs.declared.script.Target.TheVariants as target
@@ -8,7 +8,7 @@ use Rattle.dts_tree.specs.Places.{Place}
 use Rattle.dts_tree.specs.Deeds.{Deed, deed, uncovered}
 use Rattle.dts_tree.specs.Live.{is_there, node_of}
 
--- what stands before a statement: the deeds of all before it, and the nodes that are open, the innermost first
+-- what stands before a statement: the deeds of all before it, and the nodes that are open, the innermost last
 pub record Before : Type 0 where
   pub deeds : List Deed
   pub within : List Place
@@ -16,16 +16,12 @@ pub record Before : Type 0 where
 abbrev pub live : Before → List Deed
 live b = uncovered b.deeds
 
-abbrev pub innermost : List Place → Place
-innermost [] = []
-innermost (p ∷ outer) = p
-
+-- the innermost open node, the root where none is open
 abbrev pub here : Before → Place
-here b = innermost b.within
+here b = unwrap_or (slice_get b.within (length b.within - 1)) []
 
 abbrev pub closed : List Place → List Place
-closed [] = []
-closed (p ∷ outer) = outer
+closed within = take (length within - 1) within
 
 -- one deed more
 abbrev pub done : Before → Place → ActData → Before
@@ -41,7 +37,7 @@ done_at b at act None within = Err at
 done_at b at act (Some p) within = Ok (record { deeds = b.deeds ++ deed p act ∷ []; within = within p })
 
 abbrev pub opening : Before → ℕ → ActData → Target → Result Before ℕ
-opening b at act (target.Child n) = Ok (record { deeds = b.deeds ++ deed (Child n ∷ here b) act ∷ []; within = (Child n ∷ here b) ∷ b.within })
+opening b at act (target.Child n) = Ok (record { deeds = b.deeds ++ deed (Child n ∷ here b) act ∷ []; within = b.within ++ (Child n ∷ here b) ∷ [] })
 opening b at act target.Root = done_at b at act (node_of (live b) target.Root) (λ p. p ∷ [])
 opening b at act (target.ByLabel l) = done_at b at act (node_of (live b) (target.ByLabel l)) (λ p. p ∷ [])
 opening b at act (target.ByPath t) = done_at b at act (node_of (live b) (target.ByPath t)) (λ p. p ∷ [])

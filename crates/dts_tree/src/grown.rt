@@ -61,13 +61,13 @@ impl<'a> Grown<'a> {
         };
         for event in reader.events.as_slice() {
             if !reader.arena.is_gone(event.slot) {
-                grown.take(alloc, *event)?;
+                grown.take(alloc, event)?;
             }
         }
         Ok(grown)
     }
 
-    fn take(&mut self, alloc: Global, event: Event<'a>) -> Result<(), AllocError> {
+    fn take(&mut self, alloc: Global, event: &Event<'a>) -> Result<(), AllocError> {
         match event.act {
             Act::Label(label) => match self.labels.get_mut(event.slot) {
                 Some(names) => names.put(alloc, label)?,

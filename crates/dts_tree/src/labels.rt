@@ -1,10 +1,16 @@
 //! Which nodes labels were put on.
 
+ghost use Rattle.std.specs.Prelude.{◌≡◌, ◌∷◌, ◌++◌, [], OnOk, length};
+ghost use Rattle.dts_tree.specs.Live.{last_of};
+ghost use Rattle.dts_tree.specs.Arena.{named, with_name, pushed};
+ghost use Rattle.dts_tree.specs.Machine.{with_label, no_labels, trimmed, alive_in, stack_of, labels_after};
+
 use crate::arena::Arena;
 use crate::slots::Slots;
 use edt_base::Text;
 use std::alloc::{AllocError, Global};
 use std::collections::BTreeMap;
+use std::marker::Model;
 
 /// Of each label its number, and by number the slots that it was put on, in order. Slots that were
 /// taken away may be left out.
@@ -14,9 +20,19 @@ pub(crate) struct Labels {
     stacks: Vec<Slots>,
 }
 
+impl Model for Labels {
+    ghost use Rattle.dts_tree.specs.Machine.{LabelsData};
+
+    ghost Value = { LabelsData };
+
+    ghost view = { λ l. record { numbers = l.numbers.entries; stacks = l.stacks.items } };
+}
+
 impl Labels {
     /// No label.
-    pub(crate) fn new(alloc: Global) -> Labels {
+    pub(crate) fn new(alloc: Global) -> Labels
+        ensures { result ≡ no_labels }
+    {
         Labels {
             numbers: BTreeMap::new(alloc),
             stacks: Vec::new(alloc),
@@ -24,38 +40,64 @@ impl Labels {
     }
 
     /// A label is put on a node.
-    pub(crate) fn put(&mut self, alloc: Global, label: &Text, slot: usize) -> Result<(), AllocError> {
-        let number = self.number(alloc, label)?;
-        match self.stacks.get_mut(number) {
-            Some(stack) => stack.push(slot)?,
-            None => {}
+    pub(crate) fn put(&mut self, alloc: Global, label: &Text, slot: usize) -> Result<(), AllocError>
+        ensures { OnOk result (self.new ≡ with_label self.old label.now slot) }
+    {
+        match self.number(label) {
+            Some(number) => self.push_known(number, slot),
+            None => self.push_new(alloc, label.copy(alloc)?, slot),
         }
+    }
+
+    // The label's number, if it has one.
+    fn number(&self, label: &Text) -> Option<usize>
+        ensures { result ≡ named label.now self.now.numbers }
+    {
+        self.numbers.get(label).copied()
+    }
+
+    fn push_known(&mut self, number: usize, slot: usize) -> Result<(), AllocError>
+        ensures { OnOk result (self.new ≡ record self.old { stacks = pushed self.old.stacks number slot }) }
+    {
+        match self.stacks.get_mut(number) {
+            Some(stack) => stack.push(slot),
+            None => Ok(()),
+        }
+    }
+
+    fn push_new(&mut self, alloc: Global, label: Text, slot: usize) -> Result<(), AllocError>
+        ensures { OnOk result (self.new ≡ record {
+            numbers = with_name self.old.numbers label (length self.old.stacks);
+            stacks = self.old.stacks ++ (slot ∷ []) ∷ [] }) }
+    {
+        let number = self.stacks.len();
+        let mut stack = Slots::new(alloc);
+        stack.push(slot)?;
+        self.numbers.insert(label, number)?;
+        self.stacks.push(stack)?;
         Ok(())
     }
 
-    // The label's number, which it gets where it has none.
-    fn number(&mut self, alloc: Global, label: &Text) -> Result<usize, AllocError> {
-        match self.numbers.get(label).copied() {
-            Some(number) => Ok(number),
-            None => {
-                let number = self.stacks.len();
-                self.numbers.insert(label.copy(alloc)?, number)?;
-                self.stacks.push(Slots::new(alloc))?;
-                Ok(number)
-            }
-        }
-    }
-
     /// The node that a label was last put on, of those that weren't taken away.
-    pub(crate) fn find(&mut self, arena: &Arena, label: &Text) -> Option<usize> {
-        let number = self.numbers.get(label).copied()?;
-        let stack = self.stacks.get_mut(number)?;
-        last_there(arena, stack)
+    pub(crate) fn find(&mut self, arena: &Arena, label: &Text) -> Option<usize>
+        ensures found { result ≡ last_of (alive_in arena.now.gone (stack_of self.old label.now)) }
+        ensures left { self.new ≡ labels_after arena.now.gone self.old label.now }
+    {
+        match self.number(label) {
+            Some(number) => match self.stacks.get_mut(number) {
+                Some(stack) => last_there(arena, stack),
+                None => None,
+            },
+            None => None,
+        }
     }
 }
 
 // The last slot that wasn't taken away; those behind it are dropped.
-fn last_there(arena: &Arena, stack: &mut Slots) -> Option<usize> {
+fn last_there(arena: &Arena, stack: &mut Slots) -> Option<usize>
+    ensures found { result ≡ last_of (alive_in arena.now.gone stack.old) }
+    ensures left { stack.new ≡ trimmed arena.now.gone stack.old }
+{
     while let Some(slot) = stack.last() {
         if !arena.is_gone(slot) {
             return Some(slot);

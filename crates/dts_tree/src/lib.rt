@@ -3,7 +3,7 @@
 #![tactic(auto)]
 
 mod arena;
-mod build;
+mod building;
 mod draft;
 mod finish;
 mod grown;
@@ -20,4 +20,4 @@ mod stop;
 #[cfg(test)]
 mod tests;
 
-pub use build::build;
+pub use building::build;

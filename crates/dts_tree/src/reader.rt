@@ -1,18 +1,34 @@
 //! Carries statements out.
 
+ghost use Rattle.std.specs.Prelude.{◌≡◌, ◌++◌, ◌∷◌, [], Ok, IfOk, OnOk};
+ghost use Rattle.dts_parse.specs.ActForm.{act_data};
+ghost use Rattle.dts_parse.specs.declared.script.Act.TheVariants as act;
+ghost use Rattle.dts_tree.specs.Machine.{reader_start, here_slot, noted, named_slot, looked_up, entering, opened, opening_slot, without, without_child, deleting_slot, noted_child, marking_slot, labelling, carried, carried_on, event, Steps, Finds};
+ghost use Rattle.dts_tree.specs.Arena.{child_of};
+ghost use Rattle.dts_tree.specs.declared.spot.Step.TheVariants as step;
+
 use crate::arena::Arena;
 use crate::labels::Labels;
-use crate::spot::Step;
 use crate::stop::Stop;
 use dts_parse::{Act, Stmt, Target};
 use edt_base::Text;
 use std::alloc::{AllocError, Global};
+use std::marker::Model;
 
 /// A statement with the slot that it speaks of.
-#[derive(Clone, Copy)]
+#[derive(Drop)]
 pub(crate) struct Event<'a> {
     pub(crate) slot: usize,
     pub(crate) act: &'a Act,
+}
+
+impl<'a> Model for Event<'a> {
+    ghost use Rattle.dts_tree.specs.Machine.{EventData};
+    ghost use Rattle.dts_parse.specs.ActForm.{act_data};
+
+    ghost Value = { EventData };
+
+    ghost view = { λ e. record { slot = e.slot; act = act_data e.act.now } };
 }
 
 /// What stands after some statements: the nodes and properties, the statements that speak of them in
@@ -25,9 +41,19 @@ pub(crate) struct Reader<'a> {
     within: Vec<usize>,
 }
 
+impl<'a> Model for Reader<'a> {
+    ghost use Rattle.dts_tree.specs.Machine.{ReaderData};
+
+    ghost Value = { ReaderData };
+
+    ghost view = { λ r. record { arena = r.arena; events = r.events.items; labels = r.labels; within = r.within.items } };
+}
+
 impl<'a> Reader<'a> {
     /// Before the first statement.
-    pub(crate) fn new(alloc: Global) -> Result<Reader<'a>, AllocError> {
+    pub(crate) fn new(alloc: Global) -> Result<Reader<'a>, AllocError>
+        ensures { IfOk result (λ r. r ≡ reader_start) }
+    {
         Ok(Reader {
             arena: Arena::new(alloc)?,
             events: Vec::new(alloc),
@@ -37,7 +63,9 @@ impl<'a> Reader<'a> {
     }
 
     /// Carries out a source's statements.
-    pub(crate) fn read(&mut self, alloc: Global, stmts: &'a [Stmt]) -> Result<(), Stop> {
+    pub(crate) fn read(&mut self, alloc: Global, stmts: &'a [Stmt]) -> Result<(), Stop>
+        ensures { Steps (carried_on (record self.old { within = [] }) stmts.now) self.new result }
+    {
         self.within.clear();
         for stmt in stmts {
             self.take(alloc, stmt)?;
@@ -46,7 +74,9 @@ impl<'a> Reader<'a> {
     }
 
     // Carries out a statement.
-    fn take(&mut self, alloc: Global, stmt: &'a Stmt) -> Result<(), Stop> {
+    fn take(&mut self, alloc: Global, stmt: &'a Stmt) -> Result<(), Stop>
+        ensures { Steps (carried self.old stmt.now.at stmt.now.act) self.new result }
+    {
         let act = &stmt.act;
         match act {
             Act::Open(target) => self.open(alloc, stmt.at, act, target),
@@ -54,29 +84,36 @@ impl<'a> Reader<'a> {
                 let _ = self.within.pop();
                 Ok(())
             }
-            Act::Label(label) => self.label(alloc, act, label),
-            Act::Assign(name, _) => self.assign(alloc, act, name),
-            Act::DelProp(name) => self.delete_prop(alloc, name),
+            Act::Label(label) => Ok(self.label(alloc, act, label)?),
+            Act::Assign(name, _) => Ok(self.assign(alloc, act, name)?),
+            Act::DelProp(name) => Ok(self.delete_prop(alloc, name)?),
             Act::DelNode(target) => self.delete_node(alloc, stmt.at, target),
             Act::Omit(target) => self.mark(alloc, stmt.at, act, target),
         }
     }
 
     // The innermost open node; the root where none is open.
-    fn here(&self) -> usize {
+    fn here(&self) -> usize
+        ensures { result ≡ here_slot self.now }
+    {
         match self.within.as_slice().last() {
             Some(slot) => *slot,
             None => 0,
         }
     }
 
-    fn note(&mut self, slot: usize, act: &'a Act) -> Result<(), AllocError> {
+    fn note(&mut self, slot: usize, act: &'a Act) -> Result<(), AllocError>
+        ensures { OnOk result (self.new ≡ noted self.old slot (act_data act.now)) }
+    {
         self.events.push(Event { slot, act })?;
         Ok(())
     }
 
     // The node that a reference names.
-    pub(crate) fn named(&mut self, alloc: Global, target: &Target) -> Result<Option<usize>, AllocError> {
+    pub(crate) fn named(&mut self, alloc: Global, target: &Target) -> Result<Option<usize>, AllocError>
+        ensures named { IfOk result (λ o. o ≡ named_slot self.old target.now) }
+        ensures left { OnOk result (self.new ≡ looked_up self.old target.now) }
+    {
         match target {
             Target::Root => Ok(Some(0)),
             Target::Child(_) => Ok(None),
@@ -86,14 +123,19 @@ impl<'a> Reader<'a> {
     }
 
     // The same, or the reference's byte where it names none.
-    fn found(&mut self, alloc: Global, at: u64, target: &Target) -> Result<usize, Stop> {
+    fn found(&mut self, alloc: Global, at: u64, target: &Target) -> Result<usize, Stop>
+        ensures found { Finds (named_slot self.old target.now) at result }
+        ensures left { OnOk result (self.new ≡ looked_up self.old target.now) }
+    {
         match self.named(alloc, target)? {
             Some(slot) => Ok(slot),
             None => Err(Stop::Unnamed(at)),
         }
     }
 
-    fn open(&mut self, alloc: Global, at: u64, act: &'a Act, target: &Target) -> Result<(), Stop> {
+    fn open(&mut self, alloc: Global, at: u64, act: &'a Act, target: &Target) -> Result<(), Stop>
+        ensures { Steps (opening_slot self.old at (act_data act.now) target.now) self.new result }
+    {
         match target {
             Target::Child(name) => self.open_child(alloc, act, name)?,
             _ => {
@@ -106,48 +148,55 @@ impl<'a> Reader<'a> {
         Ok(())
     }
 
-    fn open_child(&mut self, alloc: Global, act: &'a Act, name: &Text) -> Result<(), AllocError> {
+    fn open_child(&mut self, alloc: Global, act: &'a Act, name: &Text) -> Result<(), AllocError>
+        ensures { OnOk result (self.new ≡ opened self.old name.now (act_data act.now)) }
+    {
         let here = self.here();
-        let slot = match self.arena.child(here, name) {
-            Some(slot) => slot,
-            None => self.arena.add(alloc, here, Step::Child(name.copy(alloc)?))?,
-        };
+        let slot = self.arena.enter_child(alloc, here, name)?;
         self.note(slot, act)?;
         self.within.push(slot)?;
         Ok(())
     }
 
-    fn label(&mut self, alloc: Global, act: &'a Act, label: &Text) -> Result<(), Stop> {
+    fn label(&mut self, alloc: Global, act: &'a Act, label: &Text) -> Result<(), AllocError>
+        ensures { OnOk result (self.new ≡ labelling self.old label.now (act_data act.now)) }
+    {
         let here = self.here();
         self.labels.put(alloc, label, here)?;
-        self.note(here, act)?;
-        Ok(())
+        self.note(here, act)
     }
 
-    fn assign(&mut self, alloc: Global, act: &'a Act, name: &Text) -> Result<(), Stop> {
+    fn assign(&mut self, alloc: Global, act: &'a Act, name: &Text) -> Result<(), AllocError>
+        ensures { OnOk result (self.new ≡ entering self.old (step.Prop name.now) (act_data act.now)) }
+    {
         let here = self.here();
-        let slot = match self.arena.prop(here, name) {
-            Some(slot) => slot,
-            None => self.arena.add(alloc, here, Step::Prop(name.copy(alloc)?))?,
-        };
-        self.note(slot, act)?;
-        Ok(())
+        let slot = self.arena.enter_prop(alloc, here, name)?;
+        self.note(slot, act)
     }
 
-    fn delete_prop(&mut self, alloc: Global, name: &Text) -> Result<(), Stop> {
+    fn delete_prop(&mut self, alloc: Global, name: &Text) -> Result<(), AllocError>
+        ensures { OnOk result (self.new ≡ without_child self.old (child_of self.old.arena (here_slot self.old) (step.Prop name.now))) }
+    {
         match self.arena.prop(self.here(), name) {
-            Some(slot) => self.arena.remove(alloc, slot)?,
-            None => {}
+            Some(slot) => self.arena.remove(alloc, slot),
+            None => Ok(()),
         }
-        Ok(())
     }
 
-    fn delete_node(&mut self, alloc: Global, at: u64, target: &Target) -> Result<(), Stop> {
+    fn delete_child(&mut self, alloc: Global, name: &Text) -> Result<(), AllocError>
+        ensures { OnOk result (self.new ≡ without_child self.old (child_of self.old.arena (here_slot self.old) (step.Child name.now))) }
+    {
+        match self.arena.child(self.here(), name) {
+            Some(slot) => self.arena.remove(alloc, slot),
+            None => Ok(()),
+        }
+    }
+
+    fn delete_node(&mut self, alloc: Global, at: u64, target: &Target) -> Result<(), Stop>
+        ensures { Steps (deleting_slot self.old at target.now) self.new result }
+    {
         match target {
-            Target::Child(name) => match self.arena.child(self.here(), name) {
-                Some(slot) => self.arena.remove(alloc, slot)?,
-                None => {}
-            },
+            Target::Child(name) => self.delete_child(alloc, name)?,
             _ => {
                 let slot = self.found(alloc, at, target)?;
                 self.within.clear();
@@ -158,7 +207,9 @@ impl<'a> Reader<'a> {
     }
 
     // Takes a node away; all that was read where it is the root.
-    fn delete(&mut self, alloc: Global, slot: usize) -> Result<(), AllocError> {
+    fn delete(&mut self, alloc: Global, slot: usize) -> Result<(), AllocError>
+        ensures { OnOk result (self.new ≡ without self.old slot) }
+    {
         if slot == 0 {
             self.arena = Arena::new(alloc)?;
             self.events = Vec::new(alloc);
@@ -168,12 +219,20 @@ impl<'a> Reader<'a> {
         self.arena.remove(alloc, slot)
     }
 
-    fn mark(&mut self, alloc: Global, at: u64, act: &'a Act, target: &Target) -> Result<(), Stop> {
+    fn mark_child(&mut self, act: &'a Act, name: &Text) -> Result<(), AllocError>
+        ensures { OnOk result (self.new ≡ noted_child self.old (child_of self.old.arena (here_slot self.old) (step.Child name.now)) (act_data act.now)) }
+    {
+        match self.arena.child(self.here(), name) {
+            Some(slot) => self.note(slot, act),
+            None => Ok(()),
+        }
+    }
+
+    fn mark(&mut self, alloc: Global, at: u64, act: &'a Act, target: &Target) -> Result<(), Stop>
+        ensures { Steps (marking_slot self.old at (act_data act.now) target.now) self.new result }
+    {
         match target {
-            Target::Child(name) => match self.arena.child(self.here(), name) {
-                Some(slot) => self.note(slot, act)?,
-                None => {}
-            },
+            Target::Child(name) => self.mark_child(act, name)?,
             _ => {
                 let slot = self.found(alloc, at, target)?;
                 self.within.clear();

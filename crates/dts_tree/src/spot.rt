@@ -1,8 +1,14 @@
 //! Steps from a node to what stands in it, and where they lead.
 
+ghost use Rattle.std.specs.Prelude.{◌≡◌, OnOk, true, false};
+ghost use Rattle.dts_tree.specs.Arena.{named, lead_of, with_lead, no_leads};
+ghost use Rattle.dts_tree.specs.Places.{step_name};
+ghost use Rattle.dts_tree.specs.Slots.{is_node};
+
 use edt_base::Text;
 use std::alloc::{AllocError, Global};
 use std::collections::BTreeMap;
+use std::marker::Model;
 
 /// A step to a child or to a property of a node.
 #[derive(Debug, Drop)]
@@ -23,7 +29,9 @@ pub struct Spot {
 
 impl Step {
     /// The name of what it leads to.
-    pub(crate) fn name(&self) -> &Text {
+    pub(crate) fn name(&self) -> &Text
+        ensures { result.now ≡ step_name self.now }
+    {
         match self {
             Step::Child(name) | Step::Prop(name) => name,
         }
@@ -37,9 +45,19 @@ pub(crate) struct Leads {
     props: BTreeMap<Text, usize>,
 }
 
+impl Model for Leads {
+    ghost use Rattle.dts_tree.specs.Arena.{LeadsData};
+
+    ghost Value = { LeadsData };
+
+    ghost view = { λ l. record { children = l.children.entries; props = l.props.entries } };
+}
+
 impl Leads {
     /// No step was taken.
-    pub(crate) fn new(alloc: Global) -> Leads {
+    pub(crate) fn new(alloc: Global) -> Leads
+        ensures { result ≡ no_leads }
+    {
         Leads {
             children: BTreeMap::new(alloc),
             props: BTreeMap::new(alloc),
@@ -47,17 +65,23 @@ impl Leads {
     }
 
     /// Where the step to a child leads.
-    pub(crate) fn child(&self, name: &Text) -> Option<usize> {
+    pub(crate) fn child(&self, name: &Text) -> Option<usize>
+        ensures { result ≡ named name.now self.now.children }
+    {
         self.children.get(name).copied()
     }
 
     /// Where the step to a property leads.
-    pub(crate) fn prop(&self, name: &Text) -> Option<usize> {
+    pub(crate) fn prop(&self, name: &Text) -> Option<usize>
+        ensures { result ≡ named name.now self.now.props }
+    {
         self.props.get(name).copied()
     }
 
     /// A step now leads to this slot.
-    pub(crate) fn put(&mut self, alloc: Global, step: &Step, slot: usize) -> Result<(), AllocError> {
+    pub(crate) fn put(&mut self, alloc: Global, step: &Step, slot: usize) -> Result<(), AllocError>
+        ensures { OnOk result (self.new ≡ with_lead self.old step.now slot) }
+    {
         match step {
             Step::Child(name) => {
                 self.children.insert(name.copy(alloc)?, slot)?;
@@ -72,7 +96,9 @@ impl Leads {
 
 impl Spot {
     /// Whether it is a node.
-    pub(crate) fn is_child(&self) -> bool {
+    pub(crate) fn is_child(&self) -> bool
+        ensures { result ≡ is_node self.now }
+    {
         match &self.step {
             Step::Child(_) => true,
             Step::Prop(_) => false,

@@ -1,0 +1,12 @@
+pub mod Lists
+pub mod PlaceLaws
+pub mod DeedLaws
+pub mod NameLaws
+pub mod Shape
+pub mod Sweeping
+pub mod Adding
+pub mod Tying
+pub mod SweepTurns
+pub mod Trimming
+pub mod Carrying
+pub mod Following

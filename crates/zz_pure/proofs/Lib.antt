@@ -1,0 +1,12 @@
+pub mod Sweeping
+pub mod DeedLaws
+pub mod SweepTurns
+pub mod PlaceLaws
+pub mod Tying
+pub mod NameLaws
+pub mod Following
+pub mod Lists
+pub mod Shape
+pub mod Trimming
+pub mod Carrying
+pub mod Adding

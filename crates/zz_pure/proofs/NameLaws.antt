@@ -1,0 +1,45 @@
+-- What a sorted list has under a name after one more was put into it.
+use Rattle.std.proofs.Common.{◌≡◌, ◌∙◌, ◌∷◌, [], ℕ, Bool, true, false, cond, List, Option, Some, None, refl, sym, ap, subst}
+use Rattle.std.specs.Map.{lookup}
+use Rattle.std.specs.BTreeMap.{insert_entry, is_at}
+use Rattle.std.specs.Ordering.{nat_cmp, match_ordering, is_eq}
+use Rattle.std.specs.declared.cmp.Ordering.{Ordering}
+use Rattle.std.specs.declared.cmp.Ordering.TheVariants.{Less, Equal, Greater}
+use Rattle.std.specs.Cmp.Lexicographic.{slice_cmp}
+use Rattle.std.specs.Str.{bytes_eq}
+use Rattle.std.proofs.lemmas.Map.Text.{is_eq-slice_cmp}
+use Rattle.std.proofs.lemmas.Map.Lookups.{exact_bytes}
+use Rattle.std.proofs.lemmas.Bool.{false_from_ne_true}
+use Rattle.zz_pure.specs.Arena.{named, with_name}
+use Rattle.zz_pure.proofs.PlaceLaws.{same_bytes, bytes_self}
+
+test_self : (k : List ℕ) → is_at (slice_cmp nat_cmp k) k ≡ true
+test_self k = is_eq-slice_cmp k k ∙ bytes_self k
+
+test_other : (q k : List ℕ) → (q ≡ k → ⊥) → is_at (slice_cmp nat_cmp q) k ≡ false
+test_other q k n = is_eq-slice_cmp q k ∙ false_from_ne_true (bytes_eq q k) (λ e. n (same_bytes q k e))
+
+same_by : (o : Ordering) (k : List ℕ) (id : ℕ) (e : List ℕ × ℕ) (es : List (List ℕ × ℕ)) → slice_cmp nat_cmp k e.0 ≡ o
+    → named k (with_name es k id) ≡ Some id
+    → named k (match_ordering o ((k, id) ∷ e ∷ es) ((e.0, id) ∷ es) (e ∷ with_name es k id)) ≡ Some id
+same_by Less k id e es h r = ap (λ b. cond b (Some id) (named k (e ∷ es))) (test_self k)
+same_by Equal k id e es h r = ap (λ o. cond (is_eq o) (Some id) (named k es)) h
+same_by Greater k id e es h r = ap (λ o. cond (is_eq o) (Some e.1) (named k (with_name es k id))) h ∙ r
+
+pub named_same : (es : List (List ℕ × ℕ)) (k : List ℕ) (id : ℕ) → named k (with_name es k id) ≡ Some id
+named_same [] k id = ap (λ b. cond b (Some id) None) (test_self k)
+named_same (e ∷ es) k id = same_by (slice_cmp nat_cmp k e.0) k id e es refl (named_same es k id)
+
+other_by : (o : Ordering) (q k : List ℕ) (id : ℕ) (e : List ℕ × ℕ) (es : List (List ℕ × ℕ)) → slice_cmp nat_cmp k e.0 ≡ o → (q ≡ k → ⊥)
+    → named q (with_name es k id) ≡ named q es
+    → named q (match_ordering o ((k, id) ∷ e ∷ es) ((e.0, id) ∷ es) (e ∷ with_name es k id)) ≡ named q (e ∷ es)
+other_by Less q k id e es h n r = ap (λ b. cond b (Some id) (named q (e ∷ es))) (test_other q k n)
+other_by Equal q k id e es h n r =
+    let same : k ≡ e.0 = exact_bytes k e.0 h in
+    let no : is_at (slice_cmp nat_cmp q) e.0 ≡ false = subst (λ t. is_at (slice_cmp nat_cmp q) t ≡ false) same (test_other q k n) in
+    ap (λ b. cond b (Some id) (named q es)) no ∙ ap (λ b. cond b (Some e.1) (named q es)) (sym no)
+other_by Greater q k id e es h n r = ap (λ t. cond (is_at (slice_cmp nat_cmp q) e.0) (Some e.1) t) r
+
+pub named_other : (es : List (List ℕ × ℕ)) (q k : List ℕ) (id : ℕ) → (q ≡ k → ⊥) → named q (with_name es k id) ≡ named q es
+named_other [] q k id n = ap (λ b. cond b (Some id) None) (test_other q k n)
+named_other (e ∷ es) q k id n = other_by (slice_cmp nat_cmp k e.0) q k id e es refl n (named_other es q k id n)

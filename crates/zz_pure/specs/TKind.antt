@@ -1,0 +1,6 @@
+pub data Kind : Type 0 where
+  Str : Kind
+  Cells : Kind
+  Hex : Kind
+  Wide : Kind
+  Path : Kind
