@@ -10,3 +10,7 @@ pub mod SweepTurns
 pub mod Trimming
 pub mod Carrying
 pub mod Following
+pub mod Referring
+pub mod Walking
+pub mod Gathering
+pub mod Ordering

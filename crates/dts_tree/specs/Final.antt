@@ -2,7 +2,8 @@
 use Rattle.std.specs.Prelude.{ℕ, suc, ◌+◌, ◌*◌, ◌^◌, ◌-◌, Bool, true, false, ◌&&◌, not, List, [], ◌∷◌, ◌++◌, Option, Some, None, length, map, fold, find, filter, position, take, codes, is_some, is_none, slice_get, slice_index_or, slice_set, nat_eq, nat_le, unwrap_or, if◌then◌else◌}
 use Rattle.std.specs.Option.{option_and_then, option_map, option_map_or, option_to_list}
 use Rattle.std.specs.List.{list_any, list_all, filter_map, flat_map, range_with_len}
-use Rattle.std.specs.Str.{bytes_eq, utf8_valid_len}
+use Rattle.std.specs.Str.{bytes_eq}
+use Rattle.std.specs.Str.Lossy.{utf8_valid_len}
 use Rattle.edt_base.specs.Cells.{cell_bytes}
 use Rattle.edt_base.specs.NodeData.{NodeData, prop_of}
 use Rattle.edt_base.specs.TreeData.{TreeData, children_of}

@@ -2,6 +2,7 @@ pub mod Places
 pub mod Deeds
 pub mod Live
 pub mod Reading
+pub mod References
 pub mod Whole
 pub mod Limits
 pub mod Drafts
@@ -11,3 +12,8 @@ pub mod Outcome
 pub mod Arena
 pub mod Machine
 pub mod Slots
+pub mod Ends
+pub mod Grown
+pub mod Finding
+pub mod Left
+pub mod DraftForm

@@ -9,6 +9,7 @@ use Rattle.dts_tree.specs.declared.spot.Step.{Step}
 use Rattle.dts_tree.specs.declared.spot.Step.TheVariants.{Child, Prop}
 use Rattle.dts_tree.specs.Arena.{ArenaData, named, with_name, is_alive, child_of, entered, entered_slot, at_path, removed, root_arena, last_slot, but_last, pushed}
 use Rattle.dts_tree.specs.Live.{last_of}
+use Rattle.dts_tree.specs.Reading.{Unnamed}
 use Rattle.dts_tree.specs.declared.stop.Stop.{Stop}
 use Rattle.dts_tree.specs.declared.stop.Stop.TheVariants as stop
 
@@ -170,3 +171,8 @@ abbrev pub Finds : Option ℕ → ℕ → Result ℕ Stop → Type 0
 Finds wanted at (Ok slot) = wanted ≡ Some slot
 Finds wanted at (Err (stop.Unnamed byte)) = (wanted ≡ None) × (byte ≡ at)
 Finds wanted at (Err (stop.Memory e)) = ⊤
+
+-- the statements of all sources, the first of which has this place among them
+abbrev pub carried_all : ℕ → ReaderData → List (List StmtData) → Result ReaderData Unnamed
+carried_all first r [] = Ok r
+carried_all first r (s ∷ rest) = elim (carried_on (record r { within = [] }) s) [ Ok next ↦ carried_all (first + 1) next rest | Err at ↦ Err (record { source = first; at = at }) ]

@@ -10,6 +10,7 @@ use Rattle.edt_base.specs.declared.fault.Rule.TheVariants as rule
 use Rattle.dts_parse.specs.StmtData.{StmtData}
 use Rattle.dts_tree.specs.Places.{Place, path_text}
 use Rattle.dts_tree.specs.Reading.{Before, Unnamed, read_all, start}
+use Rattle.dts_tree.specs.References.{unnamed_fault}
 use Rattle.dts_tree.specs.Whole.{whole}
 use Rattle.dts_tree.specs.Limits.{are_too_many, first_large, first_label_shared}
 use Rattle.dts_tree.specs.Drafts.{DraftData, drafts}
@@ -54,14 +55,8 @@ counted_or b false = sized_or b (first_large b)
 
 abbrev pub left_by : List (List ℕ) → Result Before Unnamed → Result TreeData Fault
 left_by files (Ok b) = counted_or b (are_too_many (whole b))
-left_by files (Err u) = Err (record { rule = rule.S3; place = fault.Byte (slice_index_or files u.source []) u.at })
+left_by files (Err u) = Err (unnamed_fault files u.source u.at)
 
 -- what the sources of these names and statements leave
 abbrev pub outcome : List (List ℕ) → List (List StmtData) → Result TreeData Fault
 outcome files scripts = left_by files (read_all 0 start scripts)
-
--- the answer is this outcome, or memory was wanted
-abbrev pub Answers : Result TreeData Fault → Result TreeData End → Type 0
-Answers wanted (Ok t) = wanted ≡ Ok t
-Answers wanted (Err (ending.Fault f)) = wanted ≡ Err f
-Answers wanted (Err (ending.Memory e)) = ⊤

@@ -1,5 +1,5 @@
 -- What statements do one after another, and the first reference of a statement that names no node.
-use Rattle.std.specs.Prelude.{ℕ, suc, Bool, true, false, List, [], ◌∷◌, ◌++◌, Option, Some, None, Result, Ok, Err, ◌-◌, length, slice_get, take, unwrap_or, if◌then◌else◌}
+use Rattle.std.specs.Prelude.{ℕ, ◌+◌, Bool, true, false, List, [], ◌∷◌, ◌++◌, Option, Some, None, Result, Ok, Err, ◌-◌, length, slice_get, take, unwrap_or, if◌then◌else◌}
 use Rattle.dts_parse.specs.StmtData.{ActData, StmtData, Open, Close, Label, Assign, DelProp, DelNode, Omit}
 use Rattle.dts_parse.specs.declared.script.Target.{Target}
 use Rattle.dts_parse.specs.declared.script.Target.TheVariants as target
@@ -76,4 +76,4 @@ pub record Unnamed : Type 0 where
 -- behind the statements of all sources, the first of which has this place among them
 abbrev pub read_all : ℕ → Before → List (List StmtData) → Result Before Unnamed
 read_all first b [] = Ok b
-read_all first b (s ∷ rest) = elim (read_on (record b { within = [] }) s) [ Ok next ↦ read_all (suc first) next rest | Err at ↦ Err (record { source = first; at = at }) ]
+read_all first b (s ∷ rest) = elim (read_on (record b { within = [] }) s) [ Ok next ↦ read_all (first + 1) next rest | Err at ↦ Err (record { source = first; at = at }) ]

@@ -2,7 +2,7 @@
 
 use crate::draft::{Draft, DraftCell, DraftPart, DraftProp};
 use crate::phandles::{draft_prop, first_bad_phandle, phandles};
-use crate::rules::fault;
+use crate::faults::fault;
 use edt_base::{Bytes, End, Fault, Kind, NodeId, NodeRec, Part, Place, PropVal, Rule, Text, Tree};
 use indexmap::IndexMap;
 use std::alloc::{AllocError, Global};

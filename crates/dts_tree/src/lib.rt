@@ -5,15 +5,19 @@
 mod arena;
 mod building;
 mod draft;
+mod faults;
+mod finder;
 mod finish;
 mod grown;
 mod labels;
+mod left;
 mod names;
 mod order;
 mod parts;
 mod phandles;
 mod reader;
 mod rules;
+mod sources;
 mod slots;
 mod spot;
 mod stop;
@@ -21,3 +25,4 @@ mod stop;
 mod tests;
 
 pub use building::build;
+pub use sources::check_references;

@@ -1,37 +1,23 @@
 //! The rules that speak of all nodes, and which nodes stay.
 
-use crate::grown::Grown;
-use crate::reader::Reader;
+ghost use Rattle.std.specs.Prelude.{◌≡◌, [], IfOk, OnOk, true, map, fold, slice_set};
+ghost use Rattle.std.specs.Str.{bytes_eq};
+ghost use Rattle.dts_parse.specs.ActForm.{part_data};
+ghost use Rattle.dts_tree.specs.Live.{with_new};
+ghost use Rattle.dts_tree.specs.Whole.{cell_targets, part_targets};
+ghost use Rattle.dts_tree.specs.Grown.{len_at, slots_too_many, path_size, slot_part_size, size_from, has_large, first_large_slot, any_seen, shared_from, wants, wanted_parts, wanted_by, wanted_from, stays_at, stays_list, below_in};
+
+use crate::finder::Finder;
+use crate::grown::{Grown, Names};
+use crate::order::{below, is_set};
+use crate::slots::Slots;
 use dts_parse::{RawCell, RawPart, Target};
-use edt_base::{End, Fault, Place, Rule, Text};
+use edt_base::Text;
 use std::alloc::{AllocError, Global};
-use std::collections::BTreeSet;
 
-/// A broken rule at a path.
-pub(crate) fn fault(alloc: Global, rule: Rule, path: &str) -> End {
-    match String::from_str(alloc, path) {
-        Ok(path) => End::Fault(Fault {
-            rule,
-            place: Place::Node(Text::new(path)),
-        }),
-        Err(e) => End::Memory(e),
-    }
-}
-
-/// A broken rule at a slot, where these are the texts of the slots' paths.
-pub(crate) fn fault_at(alloc: Global, rule: Rule, texts: &Vec<Text>, slot: usize) -> End {
-    match texts.get(slot) {
-        Some(text) => fault(alloc, rule, path_or_root(text.as_str())),
-        None => fault(alloc, rule, "/"),
-    }
-}
-
-/// The path of a node, of whose text the root's is empty.
-pub(crate) fn path_or_root(text: &str) -> &str {
-    if text.is_empty() { "/" } else { text }
-}
-
-fn len_at(lens: &[u64], slot: usize) -> u64 {
+fn len_at(lens: &[u64], slot: usize) -> u64
+    ensures { result ≡ len_at lens.now slot }
+{
     match lens.get(slot) {
         Some(len) => (*len).max(1),
         None => 1,
@@ -39,7 +25,9 @@ fn len_at(lens: &[u64], slot: usize) -> u64 {
 }
 
 /// Whether there are too many nodes, or paths of too many bytes.
-pub(crate) fn are_too_many(slots: &[usize], lens: &[u64]) -> bool {
+pub(crate) fn are_too_many(slots: &[usize], lens: &[u64]) -> bool
+    ensures { result ≡ slots_too_many slots.now lens.now }
+{
     let mut all: u64 = 0;
     for slot in slots {
         all = all.saturating_add(len_at(lens, *slot));
@@ -47,31 +35,42 @@ pub(crate) fn are_too_many(slots: &[usize], lens: &[u64]) -> bool {
     slots.len() > 65_535 || all > 16_777_216
 }
 
+/// What is known of all slots where the rules are tested.
+#[derive(Drop)]
+pub(crate) struct Known<'r, 'a> {
+    pub(crate) finder: Finder<'r, 'a>,
+    pub(crate) grown: Grown<'a>,
+    pub(crate) props: Vec<Slots>,
+}
+
 /// The first node with a property of too many bytes.
 pub(crate) fn first_large(
     alloc: Global,
-    reader: &mut Reader<'_>,
-    grown: &Grown<'_>,
+    known: &Known<'_, '_>,
     slots: &[usize],
     lens: &[u64],
-) -> Result<Option<usize>, AllocError> {
+) -> Result<Option<usize>, AllocError>
+    ensures { IfOk result (λ o. o ≡ first_large_slot known.now.finder known.now.grown lens.now known.now.props.items slots.now) }
+{
     for slot in slots {
-        if is_large(alloc, reader, grown, grown.props(*slot), lens)? {
+        if has_large(alloc, &known.finder, &known.grown, below(known.props.as_slice(), *slot), lens)? {
             return Ok(Some(*slot));
         }
     }
     Ok(None)
 }
 
-fn is_large(
+fn has_large(
     alloc: Global,
-    reader: &mut Reader<'_>,
+    finder: &Finder<'_, '_>,
     grown: &Grown<'_>,
     props: &[usize],
     lens: &[u64],
-) -> Result<bool, AllocError> {
+) -> Result<bool, AllocError>
+    ensures { IfOk result (λ b. b ≡ has_large finder.now grown.now lens.now props.now) }
+{
     for prop in props {
-        if value_size(alloc, reader, grown.value(*prop), lens)? > 65_536 {
+        if value_size(alloc, finder, grown.value(*prop), lens)? > 65_536 {
             return Ok(true);
         }
     }
@@ -80,39 +79,40 @@ fn is_large(
 
 fn value_size(
     alloc: Global,
-    reader: &mut Reader<'_>,
+    finder: &Finder<'_, '_>,
     parts: &[RawPart],
     lens: &[u64],
-) -> Result<u64, AllocError> {
+) -> Result<u64, AllocError>
+    ensures { IfOk result (λ n. n ≡ size_from finder.now lens.now 0 (map part_data parts.now)) }
+{
     let mut size: u64 = 0;
     for part in parts {
-        size = size.saturating_add(part_size(alloc, reader, part, lens)?);
+        size = size.saturating_add(part_size(alloc, finder, part, lens)?);
     }
     Ok(size)
 }
 
 fn part_size(
     alloc: Global,
-    reader: &mut Reader<'_>,
+    finder: &Finder<'_, '_>,
     part: &RawPart,
     lens: &[u64],
-) -> Result<u64, AllocError> {
+) -> Result<u64, AllocError>
+    ensures { IfOk result (λ n. n ≡ slot_part_size finder.now lens.now (part_data part.now)) }
+{
     match part {
         RawPart::Plain(part) => Ok(part.bytes.as_slice().len() as u64),
         RawPart::Cells(cells) => Ok((cells.len() as u64).saturating_mul(4)),
-        RawPart::Path(target) => path_size(alloc, reader, target, lens),
+        RawPart::Path(target) => Ok(path_size(lens, finder.find(alloc, target)?)),
     }
 }
 
-fn path_size(
-    alloc: Global,
-    reader: &mut Reader<'_>,
-    target: &Target,
-    lens: &[u64],
-) -> Result<u64, AllocError> {
-    match reader.named(alloc, target)? {
-        Some(slot) => Ok(len_at(lens, slot).saturating_add(1)),
-        None => Ok(0),
+fn path_size(lens: &[u64], slot: Option<usize>) -> u64
+    ensures { result ≡ path_size lens.now slot }
+{
+    match slot {
+        Some(slot) => len_at(lens, slot).saturating_add(1),
+        None => 0,
     }
 }
 
@@ -121,88 +121,153 @@ pub(crate) fn first_label_shared(
     alloc: Global,
     grown: &Grown<'_>,
     slots: &[usize],
-) -> Result<Option<usize>, AllocError> {
-    let mut seen = BTreeSet::new(alloc);
+) -> Result<Option<usize>, AllocError>
+    ensures { IfOk result (λ o. o ≡ shared_from grown.now [] slots.now) }
+{
+    let mut seen = Names::new(alloc);
     for slot in slots {
-        for label in grown.labels(*slot) {
-            if seen.contains(label) {
-                return Ok(Some(*slot));
-            }
+        if any_seen(&seen, grown.labels(*slot)) {
+            return Ok(Some(*slot));
         }
-        for label in grown.labels(*slot) {
-            let _ = seen.insert(label.copy(alloc)?)?;
-        }
+        put_all(alloc, &mut seen, grown.labels(*slot))?;
     }
     Ok(None)
 }
 
-/// Of each slot that was kept, whether it still is: marked nodes that no reference names aren't.
-pub(crate) fn stays(
-    alloc: Global,
-    reader: &mut Reader<'_>,
-    grown: &Grown<'_>,
-    slots: &[usize],
-    keep: &mut Vec<bool>,
-) -> Result<(), AllocError> {
-    let mut wanted = vec![in alloc; false; keep.len()]?;
-    for slot in slots {
-        for prop in grown.props(*slot) {
-            for part in grown.value(*prop) {
-                want_part(alloc, reader, part, &mut wanted)?;
-            }
+fn any_seen(seen: &Names, labels: &[Text]) -> bool
+    ensures { result ≡ any_seen seen.now labels.now }
+{
+    for label in labels {
+        if seen.has(label) {
+            return true;
         }
     }
-    for slot in slots {
-        if grown.is_marked(*slot) && !is_set(wanted.as_slice(), *slot) {
-            match keep.get_mut(*slot) {
-                Some(kept) => *kept = false,
-                None => {}
-            }
-        }
+    false
+}
+
+fn put_all(alloc: Global, seen: &mut Names, labels: &[Text]) -> Result<(), AllocError>
+    ensures { OnOk result (seen.new ≡ fold (with_new bytes_eq) seen.old labels.now) }
+{
+    for label in labels {
+        seen.put(alloc, label)?;
     }
     Ok(())
 }
 
-fn is_set(marks: &[bool], slot: usize) -> bool {
-    match marks.get(slot) {
-        Some(mark) => *mark,
-        None => false,
+/// Of each slot, whether it is kept and stays: marked nodes that no reference names don't.
+pub(crate) fn stays_list(
+    alloc: Global,
+    keep: &[bool],
+    marks: &[bool],
+    wanted: &[bool],
+) -> Result<Vec<bool>, AllocError>
+    ensures { IfOk result (λ v. v.items ≡ stays_list keep.now marks.now wanted.now) }
+{
+    (0..keep.len()).map(|slot| stays_at(keep, marks, wanted, slot)).collect(alloc)
+}
+
+fn stays_at(keep: &[bool], marks: &[bool], wanted: &[bool], slot: usize) -> bool
+    ensures { result ≡ stays_at keep.now marks.now wanted.now slot }
+{
+    is_set(keep, slot) && !(is_set(marks, slot) && !is_set(wanted, slot))
+}
+
+/// Marks the slots that references in the values of these nodes name.
+pub(crate) fn want_nodes(
+    alloc: Global,
+    known: &Known<'_, '_>,
+    marks: &mut Vec<bool>,
+    slots: &[usize],
+) -> Result<(), AllocError>
+    ensures { OnOk result (marks.new.items ≡ wanted_from known.now.finder known.now.grown known.now.props.items marks.old.items slots.now) }
+{
+    for slot in slots {
+        want_props(alloc, &known.finder, &known.grown, marks, below(known.props.as_slice(), *slot))?;
     }
+    Ok(())
+}
+
+fn want_props(
+    alloc: Global,
+    finder: &Finder<'_, '_>,
+    grown: &Grown<'_>,
+    marks: &mut Vec<bool>,
+    props: &[usize],
+) -> Result<(), AllocError>
+    ensures { OnOk result (marks.new.items ≡ fold (wanted_by finder.now grown.now) marks.old.items props.now) }
+{
+    for prop in props {
+        want_parts(alloc, finder, marks, grown.value(*prop))?;
+    }
+    Ok(())
+}
+
+fn want_parts(
+    alloc: Global,
+    finder: &Finder<'_, '_>,
+    marks: &mut Vec<bool>,
+    parts: &[RawPart],
+) -> Result<(), AllocError>
+    ensures { OnOk result (marks.new.items ≡ wanted_parts finder.now marks.old.items (map part_data parts.now)) }
+{
+    for part in parts {
+        want_part(alloc, finder, marks, part)?;
+    }
+    Ok(())
 }
 
 fn want_part(
     alloc: Global,
-    reader: &mut Reader<'_>,
+    finder: &Finder<'_, '_>,
+    marks: &mut Vec<bool>,
     part: &RawPart,
-    wanted: &mut Vec<bool>,
-) -> Result<(), AllocError> {
+) -> Result<(), AllocError>
+    ensures { OnOk result (marks.new.items ≡ fold (wants finder.now) marks.old.items (part_targets (part_data part.now))) }
+{
     match part {
-        RawPart::Plain(_) => {}
-        RawPart::Cells(cells) => {
-            for cell in cells.as_slice() {
-                match cell {
-                    RawCell::Num(_) => {}
-                    RawCell::Ref(target) => want(alloc, reader, target, wanted)?,
-                }
-            }
+        RawPart::Plain(_) => Ok(()),
+        RawPart::Cells(cells) => want_cells(alloc, finder, marks, cells.as_slice()),
+        RawPart::Path(target) => want(alloc, finder, marks, target),
+    }
+}
+
+fn want_cells(
+    alloc: Global,
+    finder: &Finder<'_, '_>,
+    marks: &mut Vec<bool>,
+    cells: &[RawCell],
+) -> Result<(), AllocError>
+    ensures { OnOk result (marks.new.items ≡ fold (wants finder.now) marks.old.items (cell_targets cells.now)) }
+{
+    for cell in cells {
+        match cell {
+            RawCell::Num(_) => {}
+            RawCell::Ref(target) => want(alloc, finder, marks, target)?,
         }
-        RawPart::Path(target) => want(alloc, reader, target, wanted)?,
     }
     Ok(())
 }
 
 fn want(
     alloc: Global,
-    reader: &mut Reader<'_>,
+    finder: &Finder<'_, '_>,
+    marks: &mut Vec<bool>,
     target: &Target,
-    wanted: &mut Vec<bool>,
-) -> Result<(), AllocError> {
-    match reader.named(alloc, target)? {
-        Some(slot) => match wanted.get_mut(slot) {
-            Some(mark) => *mark = true,
-            None => {}
-        },
+) -> Result<(), AllocError>
+    ensures { OnOk result (marks.new.items ≡ wants finder.now marks.old.items target.now) }
+{
+    match finder.find(alloc, target)? {
+        Some(slot) => mark(marks, slot),
         None => {}
     }
     Ok(())
+}
+
+fn mark(marks: &mut Vec<bool>, slot: usize)
+    ensures { marks.new.items ≡ slice_set marks.old.items slot true }
+{
+    match marks.get_mut(slot) {
+        Some(mark) => *mark = true,
+        None => {}
+    }
 }

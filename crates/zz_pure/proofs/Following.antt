@@ -13,9 +13,9 @@ use Rattle.zz_pure.specs.TStep.{Child, Prop}
 use Rattle.zz_pure.specs.Places.{Place, place_eq, is_within}
 use Rattle.zz_pure.specs.Deeds.{Deed, deed, deletes, uncovered}
 use Rattle.zz_pure.specs.Live.{begins, spots, is_there, labelled, node_of}
-use Rattle.zz_pure.specs.Reading.{Before, live, here, closed, done, done_if_there, done_at, opening, naming, after, read_on}
+use Rattle.zz_pure.specs.Reading.{Before, live, here, closed, done, done_if_there, done_at, opening, naming, after, read_on, read_all, Unnamed}
 use Rattle.zz_pure.specs.Arena.{ArenaData, is_gone, is_alive, child_of, removed, root_arena, entered, entered_slot, last_slot}
-use Rattle.zz_pure.specs.Machine.{EventData, event, LabelsData, ReaderData, no_labels, named_slot, looked_up, here_slot, noted, entering, opened, opened_at, opening_slot, without, without_child, without_at, deleting_slot, noted_child, noted_at, marking_slot, labelling, carried, carried_on}
+use Rattle.zz_pure.specs.Machine.{EventData, event, LabelsData, ReaderData, no_labels, named_slot, looked_up, here_slot, noted, entering, opened, opened_at, opening_slot, without, without_child, without_at, deleting_slot, noted_child, noted_at, marking_slot, labelling, carried, carried_on, carried_all}
 use Rattle.zz_pure.proofs.Lists.{Member, all_at, all_from, member_in_map}
 use Rattle.zz_pure.proofs.PlaceLaws.{within_longer, place_self, within_more, within_self}
 use Rattle.zz_pure.proofs.DeedLaws.{outside, uncovered_done, uncovered_deleted}
@@ -392,3 +392,42 @@ follows_on (Err x) (Err y) rest f go = f
 pub carried_on_follows : (stmts : List StmtData) (r : ReaderData) (b : Before) → IsStanding r b → Follows (carried_on r stmts) (read_on b stmts)
 carried_on_follows [] r b s = s
 carried_on_follows (x ∷ rest) r b s = follows_on (carried r x.at x.act) (after b x.at x.act) rest (carried_follows r b s x.at x.act) (λ q c t. carried_on_follows rest q c t)
+
+-- ---- sources
+
+pub start_stands : IsStanding Rattle.zz_pure.specs.Machine.reader_start Rattle.zz_pure.specs.Reading.start
+start_stands = record {
+  places = [] ∷ [];
+  tied = root_tied;
+  opens = open_none ([] ∷ []) root_arena;
+  levels = omega arith;
+}
+
+closed_stands : (r : ReaderData) (b : Before) → IsStanding r b → IsStanding (record r { within = [] }) (record b { within = [] })
+closed_stands r b s = record {
+  places = s.places;
+  tied = s.tied;
+  opens = open_none s.places r.arena;
+  levels = s.levels;
+}
+
+abbrev pub FollowsAll : Result ReaderData Unnamed → Result Before Unnamed → Type 0
+FollowsAll (Ok r) (Ok b) = IsStanding r b
+FollowsAll (Ok r) (Err y) = ⊥
+FollowsAll (Err x) (Ok b) = ⊥
+FollowsAll (Err x) (Err y) = x ≡ y
+
+follows_source : (x : Result ReaderData ℕ) (y : Result Before ℕ) (first : ℕ) (rest : List (List StmtData)) → Follows x y
+    → ((r : ReaderData) (b : Before) → IsStanding r b → FollowsAll (carried_all (first + 1) r rest) (read_all (first + 1) b rest))
+    → FollowsAll (elim x [ Ok next ↦ carried_all (first + 1) next rest | Err at ↦ Err (record { source = first; at = at }) ])
+    (elim y [ Ok next ↦ read_all (first + 1) next rest | Err at ↦ Err (record { source = first; at = at }) ])
+follows_source (Ok r) (Ok b) first rest f go = go r b f
+follows_source (Ok r) (Err y) first rest f go = absurd f
+follows_source (Err x) (Ok b) first rest f go = absurd f
+follows_source (Err x) (Err y) first rest f go = let u : ℕ → Unnamed = λ at. record { source = first; at = at } in ap u f
+
+pub all_follow : (scripts : List (List StmtData)) (first : ℕ) (r : ReaderData) (b : Before) → IsStanding r b → FollowsAll (carried_all first r scripts) (read_all first b scripts)
+all_follow [] first r b s = s
+all_follow (x ∷ rest) first r b s =
+    follows_source (carried_on (record r { within = [] }) x) (read_on (record b { within = [] }) x) first rest
+    (carried_on_follows x (record r { within = [] }) (record b { within = [] }) (closed_stands r b s)) (λ q c t. all_follow rest (first + 1) q c t)

@@ -2,9 +2,12 @@ pub mod Sweeping
 pub mod DeedLaws
 pub mod SweepTurns
 pub mod PlaceLaws
+pub mod Gathering
+pub mod Walking
 pub mod Tying
 pub mod NameLaws
 pub mod Following
+pub mod Ordering
 pub mod Lists
 pub mod Shape
 pub mod Trimming

@@ -37,3 +37,9 @@ done_by (suc n) a waiting e = ap (λ w. sweep (suc n) a w) e
 
 pub sweep_done : (a : ArenaData) (waiting : List ℕ) → length waiting ≡ 0 → sweep (work a waiting) a waiting ≡ a
 sweep_done a waiting h = done_by (work a waiting) a waiting (nil_from_length waiting h)
+
+-- the same, as the loop leaves it
+pub swept_on : (a new wanted : ArenaData) (waiting w next : List ℕ) (id : ℕ) → waiting ≡ w ++ id ∷ [] → new ≡ left_at a id → next ≡ w ++ below_at a id
+    → sweep (work a waiting) a waiting ≡ wanted → sweep (work new next) new next ≡ wanted
+swept_on a new wanted waiting w next id whole left rest h =
+    ap (λ x. sweep (work x next) x next) left ∙ (ap (λ xs. sweep (work (left_at a id) xs) (left_at a id) xs) rest ∙ (sym (sweep_turn a waiting w id whole) ∙ h))

@@ -16,3 +16,5 @@ pub mod Limits
 pub mod Arena
 pub mod Machine
 pub mod Slots
+pub mod Grown
+pub mod Finding

@@ -9,6 +9,7 @@ use Rattle.zz_pure.specs.TStep.{Step}
 use Rattle.zz_pure.specs.TStep.{Child, Prop}
 use Rattle.zz_pure.specs.Arena.{ArenaData, named, with_name, is_alive, child_of, entered, entered_slot, at_path, removed, root_arena, last_slot, but_last, pushed}
 use Rattle.zz_pure.specs.Live.{last_of}
+use Rattle.zz_pure.specs.Reading.{Unnamed}
 use Rattle.zz_pure.specs.TStop.{Stop}
 use Rattle.zz_pure.specs.TStop as stop
 
@@ -170,3 +171,8 @@ abbrev pub Finds : Option ℕ → ℕ → Result ℕ Stop → Type 0
 Finds wanted at (Ok slot) = wanted ≡ Some slot
 Finds wanted at (Err (stop.Unnamed byte)) = (wanted ≡ None) × (byte ≡ at)
 Finds wanted at (Err (stop.Memory e)) = ⊤
+
+-- the statements of all sources, the first of which has this place among them
+abbrev pub carried_all : ℕ → ReaderData → List (List StmtData) → Result ReaderData Unnamed
+carried_all first r [] = Ok r
+carried_all first r (s ∷ rest) = elim (carried_on (record r { within = [] }) s) [ Ok next ↦ carried_all (first + 1) next rest | Err at ↦ Err (record { source = first; at = at }) ]

@@ -11,6 +11,8 @@ ghost use Rattle.zz_pure.specs.Limits as s5;
 ghost use Rattle.zz_pure.specs.Arena as s6;
 ghost use Rattle.zz_pure.specs.Machine as s7;
 ghost use Rattle.zz_pure.specs.Slots as s8;
+ghost use Rattle.zz_pure.specs.Grown as s9;
+ghost use Rattle.zz_pure.specs.Finding as s10;
 
 /// Law.
 pub fn law() -> u8
