@@ -14,3 +14,5 @@ pub mod Referring
 pub mod Walking
 pub mod Gathering
 pub mod Ordering
+pub mod Measuring
+pub mod Sizing

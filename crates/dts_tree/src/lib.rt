@@ -10,6 +10,7 @@ mod finder;
 mod finish;
 mod grown;
 mod labels;
+mod laws;
 mod left;
 mod names;
 mod order;
@@ -25,4 +26,5 @@ mod stop;
 mod tests;
 
 pub use building::build;
+pub use laws::deeds_stay_until_they_are_covered;
 pub use sources::check_references;
