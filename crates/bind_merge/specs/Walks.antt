@@ -26,16 +26,26 @@ abbrev pub follow : (ℕ → Option Fault) → List ℕ → Option Fault
 follow rest [] = None
 follow rest (t ∷ ts) = rest t
 
+-- several files have an include's base name; it is barred; the fault that follows it
+abbrev pub is_double : List FileData → ℕ × IncludeData → Bool
+is_double files e = is_several (named_files files e.1.name)
+
+abbrev pub is_closed : List FileData → Bool → List ℕ → ℕ × IncludeData → Bool
+is_closed files deep path e = is_barred deep path (named_files files e.1.name)
+
+abbrev pub fault_below : List FileData → (ℕ → Option Fault) → ℕ × IncludeData → Option Fault
+fault_below files rest e = follow rest (named_files files e.1.name)
+
 -- the faults of a file with this record: B14 over all its includes, B9 over all its includes, then
 -- those of the includes, each in order; `path` are the files through which one came here, itself first
 abbrev pub record_walk : List FileData → Bool → (ℕ → Option Fault) → List ℕ → List ℕ → List LevelData → Option Fault
 record_walk files deep rest path name levels =
-    let includes = includes_from 0 levels in
-    or_else (fault_if (list_any (λ (e : ℕ × IncludeData). is_several (named_files files e.1.name)) includes) (file_fault rule.B14 name))
-    (or_else (fault_if (list_any (λ (e : ℕ × IncludeData). is_barred deep path (named_files files e.1.name)) includes) (file_fault rule.B9 name))
-    (first_some (λ (e : ℕ × IncludeData). follow rest (named_files files e.1.name)) includes))
+    or_else (fault_if (list_any (is_double files) (includes_from 0 levels)) (file_fault rule.B14 name))
+    (or_else (fault_if (list_any (is_closed files deep path) (includes_from 0 levels)) (file_fault rule.B9 name))
+    (first_some (fault_below files rest) (includes_from 0 levels)))
 
-abbrev pub file_walk : List FileData → Bool → (ℕ → Option Fault) → List ℕ → List ℕ → Option (Result (List LevelData) Fault) → Option Fault
+abbrev pub file_walk : List FileData → Bool → (ℕ → Option Fault) → List ℕ → List ℕ
+    → Option (Result (List LevelData) Fault) → Option Fault
 file_walk files deep rest path name None = None
 file_walk files deep rest path name (Some (Err f)) = Some f
 file_walk files deep rest path name (Some (Ok levels)) = record_walk files deep rest path name levels
@@ -43,7 +53,8 @@ file_walk files deep rest path name (Some (Ok levels)) = record_walk files deep 
 -- the first fault of file k and its includes, where at most d of them may follow below one another
 abbrev pub walk : ℕ → List FileData → List ℕ → ℕ → Option Fault
 walk zero files path k = file_walk files true (λ t. None) (k ∷ path) (name_of files k) (record_at files k)
-walk (suc d) files path k = file_walk files false (walk d files (k ∷ path)) (k ∷ path) (name_of files k) (record_at files k)
+walk (suc d) files path k =
+    file_walk files false (walk d files (k ∷ path)) (k ∷ path) (name_of files k) (record_at files k)
 
 -- the first fault of a binding's walk: 16 includes may follow below one another
 unfoldable pub binding_walk : List FileData → ℕ → Option Fault
