@@ -12,7 +12,7 @@ use Rattle.c_macro.specs.declared.part.Part.{Part}
 use Rattle.c_macro.specs.Marked.{no_bars}
 use Rattle.c_tokens.specs.declared.tok.Tok.{Tok}
 use Rattle.c_tokens.specs.declared.tok.TokKind.TheVariants as kind
-use Rattle.c_macro.specs.SetData.{SetTable, Grown}
+use Rattle.c_macro.specs.SetData.{set_count, SetTable, Grown}
 use Rattle.c_macro.specs.Pending.{mark, marks, KnownAll, args_data, KnownArgs, part_data}
 use Rattle.c_macro.specs.Joining.{comes_to, KnownJoiner, Fed, Feeding, Building}
 use Rattle.c_macro.proofs.SetLaws.{grown_refl, grown_trans}
@@ -59,7 +59,7 @@ feeding_fails a b c j k l all left rest p q f e same fed = record {
   is = λ is. f.is is ∙ (ap (λ ps. comes_to b k (ones (marks b ps) ++ is)) e ∙ (ap (λ x. comes_to b k (One (mark b x) ∷ (ones (marks b rest) ++ is))) (sym same) ∙ fed.is (ones (marks b rest) ++ is)));
 }
 
-pub first_known : (s : SetTable) (left rest : List Pend) (p : Pend) → left ≡ p ∷ rest → KnownAll s left → p.set < length s
+pub first_known : (s : SetTable) (left rest : List Pend) (p : Pend) → left ≡ p ∷ rest → KnownAll s left → p.set < set_count s
 first_known s left rest p e h = (subst (KnownAll s) e h).0
 
 pub rest_known : (s : SetTable) (left rest : List Pend) (p : Pend) → left ≡ p ∷ rest → KnownAll s left → KnownAll s rest

@@ -4,7 +4,7 @@ pub mod TableLaws
 pub mod OneOutcome
 pub mod Steps
 pub mod SetLaws
-pub mod BarLaws
+pub mod NumberLaws
 pub mod PartLaws
 pub mod Escapes
 pub mod PendLaws

@@ -6,7 +6,7 @@ use Rattle.c_macro.specs.declared.joiner.Item.TheVariants as item
 use Rattle.c_macro.specs.declared.joiner.Joiner.{Joiner}
 use Rattle.c_macro.specs.Marked.{Marked}
 use Rattle.c_macro.specs.Bodies as bodies
-use Rattle.c_macro.specs.SetData.{SetTable, Grown}
+use Rattle.c_macro.specs.SetData.{set_count, SetTable, Grown}
 use Rattle.c_macro.specs.declared.pend.Given.{Given}
 use Rattle.c_macro.specs.declared.part.Part.{Part}
 use Rattle.c_macro.specs.Pending.{mark, marks, KnownAll, KnownArgs, args_data, part_data}
@@ -17,7 +17,7 @@ item_data s (item.Blank b) = bodies.Blank b
 item_data s item.Glue = bodies.Glue
 
 abbrev pub KnownItem : SetTable → Item → Type 0
-KnownItem s (item.One p) = p.set < length s
+KnownItem s (item.One p) = p.set < set_count s
 KnownItem s (item.Blank b) = Unit {0}
 KnownItem s item.Glue = Unit {0}
 

@@ -56,11 +56,6 @@ impl Defs {
         self.map.get(name)
     }
 
-    /// A number by which a name is known while the table stays as it is.
-    pub(crate) fn number(&self, name: &Text) -> usize {
-        self.map.get_index_of(name).unwrap_or(0)
-    }
-
     /// Locks the names that are defined so far: from here on they can't be undefined, and as every
     /// defined name they can't be defined otherwise. Takes no memory.
     pub fn lock(&mut self)

@@ -11,6 +11,7 @@ mod laws;
 mod machine;
 mod marks;
 mod needs;
+mod numbers;
 mod part;
 mod pend;
 mod place;

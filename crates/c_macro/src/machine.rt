@@ -8,7 +8,7 @@ ghost use Rattle.c_macro.specs.Bodies.{tasks, task_of, is_written, is_full, spac
 ghost use Rattle.c_macro.specs.Calls.{fitted, fit_none, fit_variable};
 ghost use Rattle.c_macro.specs.Marked.{with_bar};
 ghost use Rattle.c_macro.specs.Expansion.{macro_at};
-ghost use Rattle.c_macro.specs.SetData.{Grown, SetTable, bars_of};
+ghost use Rattle.c_macro.specs.SetData.{set_count, Grown, SetTable, bars_of};
 ghost use Rattle.c_macro.specs.Table.{defs_of};
 ghost use Rattle.c_macro.specs.Pending.{mark, marks, KnownAll, KnownTasks, KnownArgs, args_data, task_data, tasks_data, part_data};
 ghost use Rattle.c_macro.specs.Collecting.{rows_data, KnownRows, rows_size};
@@ -28,7 +28,7 @@ use std::alloc::{AllocError, Global};
 
 /// The macro of a token, unless its name is barred for it.
 pub(crate) fn macro_at<'a>(defs: &'a Defs, sets: &Sets, pend: &Pend) -> Option<&'a Def>
-    requires { pend.now.set < length sets.now }
+    requires { pend.now.set < set_count sets.now }
     ensures { option_map (λ d. d.now) result ≡ macro_at (defs_of defs.now) (mark sets.now pend.now) }
 {
     if !is_word(&pend.tok) || sets.has(pend.set, &pend.tok.spell) {

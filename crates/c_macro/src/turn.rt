@@ -7,7 +7,7 @@ ghost use Rattle.c_macro.specs.Expansion.{macro_at, Outcome, most_units, look_ma
 ghost use Rattle.c_macro.specs.MacroData.{Macro};
 ghost use Rattle.c_macro.specs.Directive.{all_params, is_punct};
 ghost use Rattle.c_macro.specs.Calls.{commas_of};
-ghost use Rattle.c_macro.specs.SetData.{Grown, SetTable, bars_of};
+ghost use Rattle.c_macro.specs.SetData.{set_count, Grown, SetTable, bars_of};
 ghost use Rattle.c_macro.specs.Table.{defs_of};
 ghost use Rattle.c_macro.specs.Turns.{Frame, frame_text};
 ghost use Rattle.c_macro.specs.Pending.{mark, marks, KnownAll, KnownTasks, KnownArgs, args_data, task_data, tasks_data, part_data};
@@ -73,7 +73,7 @@ pub(crate) enum Turn<'a> {
 /// Puts a token out.
 fn put<'a>(machine: &mut Machine<'a>, tok: Pend) -> Result<Turn<'a>, AllocError>
     requires known { KnownMachine machine.old }
-    requires tok { tok.set < length machine.old.sets }
+    requires tok { tok.set < set_count machine.old.sets }
     ensures { IfOk result (λ r. (d : List ℕ → Option Macro) → look d (mark machine.old.sets tok ∷ marks machine.old.sets (reverse machine.old.pend)) ≡ Put (mark machine.old.sets tok) (marks machine.old.sets (reverse machine.old.pend))
         → Turned d machine.new r (LevelEnds d machine.old (mark machine.old.sets tok ∷ marks machine.old.sets (reverse machine.old.pend))) (turn_weight machine.old turn.Level + 2)) }
 {
@@ -92,7 +92,6 @@ fn is_above(units: u64, count: usize) -> bool
 
 /// Puts a text in the place of a name, with the names of a set and the name itself barred.
 fn put_in_place<'a>(
-    defs: &Defs,
     machine: &mut Machine<'a>,
     text: Option<Vec<Pend>>,
     name: &Pend,
@@ -100,7 +99,7 @@ fn put_in_place<'a>(
 ) -> Result<Turn<'a>, AllocError>
     requires known { KnownMachine machine.old }
     requires text { IfSome text (λ v. KnownAll machine.old.sets v.items) }
-    requires set { set < length machine.old.sets }
+    requires set { set < set_count machine.old.sets }
     ensures { IfOk result (λ r. (d : List ℕ → Option Macro) → Turned d machine.new r
         (TextUpTo d (frames_of machine.old.sets machine.old.opens.items)
         (option_map (λ v. spaced_as name.now.tok.spaced (add_bars (with_bar (bars_of machine.old.sets set) name.now.tok.spell) (marks machine.old.sets v.items))) text)
@@ -114,9 +113,7 @@ fn put_in_place<'a>(
     if is_above(machine.units, count) {
         return Ok(Turn::Refused(Rule::C7));
     }
-    let bars = machine
-        .sets
-        .with(set, &name.tok.spell, defs.number(&name.tok.spell))?;
+    let bars = machine.sets.with(set, &name.tok.spell)?;
     place(
         &mut machine.sets,
         &mut machine.pend,
@@ -131,26 +128,24 @@ fn put_in_place<'a>(
 /// Puts an object-like macro's text in the place of its name.
 fn replace_object<'a>(
     alloc: Global,
-    defs: &'a Defs,
     machine: &mut Machine<'a>,
     tok: Pend,
     def: &'a Def,
 ) -> Result<Turn<'a>, AllocError>
     requires known { KnownMachine machine.old }
-    requires tok { tok.set < length machine.old.sets }
+    requires tok { tok.set < set_count machine.old.sets }
     ensures { IfOk result (λ r. (d : List ℕ → Option Macro) → look d (mark machine.old.sets tok ∷ marks machine.old.sets (reverse machine.old.pend)) ≡ Object (mark machine.old.sets tok) def.now (marks machine.old.sets (reverse machine.old.pend))
         → Turned d machine.new r (LevelEnds d machine.old (mark machine.old.sets tok ∷ marks machine.old.sets (reverse machine.old.pend))) (turn_weight machine.old turn.Level + 2)) }
 {
     let parts = parts(alloc, false, &[], false, def.body.as_slice())?;
     let text = text(alloc, &mut machine.sets, parts.as_slice(), &[])?;
-    let turn = put_in_place(defs, machine, text, &tok, tok.set)?;
+    let turn = put_in_place(machine, text, &tok, tok.set)?;
     Ok(turn)
 }
 
 /// Goes on with a call whose arguments are prepared: puts its text in its place.
 fn finish_call<'a>(
     alloc: Global,
-    defs: &'a Defs,
     machine: &mut Machine<'a>,
     call: Open<'a>,
 ) -> Result<Turn<'a>, AllocError>
@@ -168,7 +163,7 @@ fn finish_call<'a>(
     )?;
     machine.pend = call.rest;
     machine.out = call.out;
-    let turn = put_in_place(defs, machine, text, &call.name, set)?;
+    let turn = put_in_place(machine, text, &call.name, set)?;
     Ok(turn)
 }
 
@@ -246,7 +241,7 @@ fn open_call<'a>(
     names: &'a [Text],
 ) -> Result<Turn<'a>, AllocError>
     requires known { KnownMachine machine.old }
-    requires tok { tok.set < length machine.old.sets }
+    requires tok { tok.set < set_count machine.old.sets }
     requires names { def.now.params ≡ Some names.now }
     ensures { IfOk result (λ r. (d : List ℕ → Option Macro) (bracket : Marked) → is_punct (codes "(") bracket.tok ≡ true → macro_at d (mark machine.old.sets tok) ≡ Some def.now
         → Turned d machine.new r (LevelEnds d machine.old (mark machine.old.sets tok ∷ bracket ∷ marks machine.old.sets (reverse machine.old.pend))) (turn_weight machine.old turn.Level + 4)) }
@@ -284,7 +279,7 @@ fn call_or_put<'a>(
     names: &'a [Text],
 ) -> Result<Turn<'a>, AllocError>
     requires known { KnownMachine machine.old }
-    requires tok { tok.set < length machine.old.sets }
+    requires tok { tok.set < set_count machine.old.sets }
     requires names { def.now.params ≡ Some names.now }
     ensures { IfOk result (λ r. (d : List ℕ → Option Macro) → macro_at d (mark machine.old.sets tok) ≡ Some def.now
         → Turned d machine.new r (LevelEnds d machine.old (mark machine.old.sets tok ∷ marks machine.old.sets (reverse machine.old.pend))) (turn_weight machine.old turn.Level + 2)) }
@@ -310,7 +305,7 @@ fn look_at<'a>(
     tok: Pend,
 ) -> Result<Turn<'a>, AllocError>
     requires known { KnownMachine machine.old }
-    requires tok { tok.set < length machine.old.sets }
+    requires tok { tok.set < set_count machine.old.sets }
     ensures { IfOk result (λ r. Turned (defs_of defs.now) machine.new r
         (LevelEnds (defs_of defs.now) machine.old (mark machine.old.sets tok ∷ marks machine.old.sets (reverse machine.old.pend))) (turn_weight machine.old turn.Level + 2)) }
 {
@@ -320,7 +315,7 @@ fn look_at<'a>(
     };
     match &def.params {
         None => {
-            let turn = replace_object(alloc, defs, machine, tok, def)?;
+            let turn = replace_object(alloc, machine, tok, def)?;
             Ok(turn)
         }
         Some(names) => {
@@ -360,7 +355,7 @@ pub(crate) fn go_on<'a>(
 {
     let mut call = call;
     let Some(arg) = call.todo.pop() else {
-        let turn = finish_call(alloc, defs, machine, call)?;
+        let turn = finish_call(alloc, machine, call)?;
         return Ok(turn);
     };
     if arg.wanted {
