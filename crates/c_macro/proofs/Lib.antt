@@ -10,6 +10,7 @@ pub mod Escapes
 pub mod PendLaws
 pub mod JoinLaws
 pub mod FeedLaws
+pub mod EndLaws
 pub mod CollectLaws
 pub mod MachineLaws
 pub mod PlaceLaws

@@ -1,5 +1,5 @@
 -- The turns of the worklist, as steps of an expansion.
-use Rattle.std.proofs.Common.{◌≡◌, ℕ, suc, ◌+◌, ◌*◌, ◌<◌, ◌≤◌, Bool, true, false, List, [], ◌∷◌, ◌++◌, Option, Some, None, option_map, length, map, reverse, refl, sym, ap, subst, ◌∙◌, arith, append-nil, length-append, codes, if◌then◌else◌}
+use Rattle.std.proofs.Common.{◌≡◌, ℕ, suc, ◌+◌, ◌*◌, ◌<◌, ◌≤◌, Bool, true, false, List, [], ◌∷◌, ◌++◌, Option, Some, None, is_some, option_map, length, map, reverse, refl, sym, ap, subst, ◌∙◌, arith, append-nil, length-append, codes, if◌then◌else◌}
 use Rattle.std.proofs.lemmas.List.{reverse-append}
 use Rattle.edt_base.specs.declared.fault.Rule.{Rule}
 use Rattle.edt_base.specs.declared.fault.Rule.TheVariants.{C2, C3, C4, C7}
@@ -11,8 +11,8 @@ use Rattle.c_macro.specs.declared.turn.Machine.{Machine}
 use Rattle.c_macro.specs.declared.turn.Turn.{Turn}
 use Rattle.c_macro.specs.declared.turn.Turn.TheVariants as turn
 use Rattle.c_macro.specs.MacroData.{Macro}
-use Rattle.c_macro.specs.Marked.{Marked, Bars, with_bar}
-use Rattle.c_macro.specs.Bodies.{spaced_as, add_bars, parts_of, tasks, object_text}
+use Rattle.c_macro.specs.Marked.{Marked, Bars, with_bar, common_bars}
+use Rattle.c_macro.specs.Bodies.{spaced_as, add_bars, parts_of, tasks, object_text, Part, joined, items}
 use Rattle.c_macro.specs.Directive.{is_punct}
 use Rattle.c_macro.specs.Calls.{Closed, closed, commas_of, fitted}
 use Rattle.c_macro.specs.Collecting.{rows_data, rows_size}
@@ -25,7 +25,7 @@ use Rattle.c_macro.specs.Worklist.{names_of, frame_of, frames_of, KnownOpen, Kno
 use Rattle.c_macro.proofs.SetLaws.{grown_refl, grown_trans}
 use Rattle.c_macro.proofs.PendLaws.{mark_grows, marks_grow, known_grow, known_append, set_grows, args_grow, args_known_grow, tasks_grow, tasks_known_grow}
 use Rattle.c_macro.proofs.PlaceLaws.{known_reverse}
-use Rattle.c_macro.proofs.Steps.{opened, moved_on, step_put, step_bad, step_open, step_written, step_start, step_close, all_done}
+use Rattle.c_macro.proofs.Steps.{opened, moved_on, step_put, step_bad, step_open, step_written, step_start, step_close, all_done, text_above, text_unjoined}
 
 pub marks_push : (s : SetTable) (ps : List Pend) (p : Pend) → marks s (ps ++ p ∷ []) ≡ marks s ps ++ mark s p ∷ []
 marks_push s [] p = refl
@@ -100,7 +100,7 @@ length_barred : (h : Bars) (ts : List Marked) → length (add_bars h ts) ≡ len
 length_barred h [] = refl
 length_barred h (t ∷ ts) = ap suc (length_barred h ts)
 
-length_marks : (s : SetTable) (ps : List Pend) → length (marks s ps) ≡ length ps
+pub length_marks : (s : SetTable) (ps : List Pend) → length (marks s ps) ≡ length ps
 length_marks s [] = refl
 length_marks s (p ∷ ps) = ap suc (length_marks s ps)
 
@@ -251,6 +251,51 @@ call_turned d m n s t f text k h g empty is r = record {
       record { mid = Ready [] m.units; here = subst (λ z. ArgsExpand most_units d z m.units (Ready [] m.units)) (sym todo) (none m.units); up = (x.0, y, x.2) };
   less = let w = r.less in let z : todo_weight f.todo.items ≡ 0 = ap todo_weight empty in omega (arith, w, z);
 }
+
+some_of : (o : Option (List Marked)) → true ≡ is_some o → (ts : List Marked) × (o ≡ Some ts)
+some_of None e = cc
+some_of (Some ts) e = (ts, refl)
+
+none_of : (o : Option (List Marked)) → false ≡ is_some o → o ≡ None
+none_of None e = refl
+none_of (Some ts) e = cc
+
+-- what is put in place of a call is above the limit, if its joins make tokens
+pub above_refused : (d : Macros) (m n : Machine) (f : Open) (least : ℕ) → KnownOpen m.sets f → f.todo.items ≡ []
+    → ((ts : List Marked) → joined (items (map part_data f.parts.items) (args_data m.sets f.done.items)) ≡ Some ts → least ≤ length ts) → most_units < m.units + 1 + least
+    → true ≡ is_some (joined (items (map part_data f.parts.items) (args_data m.sets f.done.items)))
+    → Turned d n (turn.Refused C7) (TurnUpTo d m (turn.Call f)) (turn_weight m (turn.Call f))
+above_refused d m n f least k empty at_least far there =
+    let fr : Frame = frame_of m.sets f in
+    let todo : fr.todo ≡ [] = ap (λ xs. tasks_data m.sets (reverse xs)) empty in
+    let x = some_of (joined (items (map part_data f.parts.items) (args_data m.sets f.done.items))) there in
+    let h : Bars = with_bar (common_bars fr.name.bars fr.last.bars) fr.name.tok.spell in
+    let new : List Marked = spaced_as fr.name.tok.spaced (add_bars h x.0) in
+    let l : length new ≡ length x.0 = length_spaced fr.name.tok.spaced (add_bars h x.0) ∙ length_barred h x.0 in
+    let text : frame_text fr fr.done ≡ Some new = ap (option_map (λ (ts : List Marked). spaced_as fr.name.tok.spaced (add_bars h ts))) (ap (λ (ps : List Part). joined (items ps fr.done)) (sym k.parts) ∙ x.1) in
+    let a = at_least x.0 x.1 in
+    record {
+      known = tt;
+      call_known = tt;
+      all = λ o q. subst (CallEnds most_units d (frames_of m.sets m.opens.items) fr m.units) (sym q) (text_above most_units d (frames_of m.sets m.opens.items) fr new m.units todo text (omega (arith, a, l, far)));
+      less = omega arith;
+    }
+
+pub unjoined_refused : (d : Macros) (m n : Machine) (f : Open) → KnownOpen m.sets f → f.todo.items ≡ []
+    → false ≡ is_some (joined (items (map part_data f.parts.items) (args_data m.sets f.done.items)))
+    → Turned d n (turn.Refused C4) (TurnUpTo d m (turn.Call f)) (turn_weight m (turn.Call f))
+unjoined_refused d m n f k empty there =
+    let fr : Frame = frame_of m.sets f in
+    let todo : fr.todo ≡ [] = ap (λ xs. tasks_data m.sets (reverse xs)) empty in
+    let x = none_of (joined (items (map part_data f.parts.items) (args_data m.sets f.done.items))) there in
+    let h : Bars = with_bar (common_bars fr.name.bars fr.last.bars) fr.name.tok.spell in
+    let text : frame_text fr fr.done ≡ None = ap (option_map (λ (ts : List Marked). spaced_as fr.name.tok.spaced (add_bars h ts))) (ap (λ (ps : List Part). joined (items ps fr.done)) (sym k.parts) ∙ x) in
+    record {
+      known = tt;
+      call_known = tt;
+      all = λ o q. subst (CallEnds most_units d (frames_of m.sets m.opens.items) fr m.units) (sym q) (text_unjoined most_units d (frames_of m.sets m.opens.items) fr m.units todo text);
+      less = omega arith;
+    }
 
 -- ---- levels and calls
 

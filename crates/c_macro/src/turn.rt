@@ -1,7 +1,7 @@
 //! The turns of the worklist (ISO C, 6.10.3.4).
 
 ghost use Rattle.std.specs.Prelude.{◌≡◌, ◌+◌, ◌*◌, ◌-◌, ◌<◌, ◌≤◌, ◌++◌, ◌∷◌, [], List, ℕ, IfOk, IfSome, OnOk, Some, None, length, map, reverse, option_map, Option, true, false, codes};
-ghost use Rattle.c_macro.specs.Bodies.{spaced_as, add_bars, parts_of, object_text};
+ghost use Rattle.c_macro.specs.Bodies.{spaced_as, add_bars, parts_of, object_text, joined, items};
 ghost use Rattle.c_macro.specs.Marked.{with_bar, Marked};
 ghost use Rattle.c_macro.specs.Expansion.{macro_at, Outcome, most_units, look_macro, look, Put, Object};
 ghost use Rattle.c_macro.specs.MacroData.{Macro};
@@ -23,7 +23,7 @@ use crate::pend::{Given, Pend, Todo};
 use crate::place::place;
 use crate::row::{Pending, Row};
 use crate::sets::Sets;
-use crate::text::text;
+use crate::text::{are_joined, least_count, text};
 use crate::tokens::is_punct;
 use edt_base::{Rule, Text};
 use std::alloc::{AllocError, Global};
@@ -143,7 +143,28 @@ fn replace_object<'a>(
     Ok(turn)
 }
 
-/// Goes on with a call whose arguments are prepared: puts its text in its place.
+/// Refuses a call whose text is above the limit, if each of its joins makes a token.
+fn refuse_call<'a>(
+    alloc: Global,
+    machine: &mut Machine<'a>,
+    call: &Open<'a>,
+    least: usize,
+) -> Result<Turn<'a>, AllocError>
+    requires known { KnownMachine machine.old }
+    requires call { KnownOpen machine.old.sets call.now }
+    requires done { call.now.todo.items ≡ [] }
+    requires least { (ts : List Marked) → joined (items (map part_data call.now.parts.items) (args_data machine.old.sets call.now.done.items)) ≡ Some ts → least ≤ length ts }
+    requires above { most_units < machine.old.units + 1 + least }
+    ensures { IfOk result (λ r. (d : List ℕ → Option Macro) → Turned d machine.new r (TurnUpTo d machine.old (turn.Call call.now)) (turn_weight machine.old (turn.Call call.now))) }
+{
+    if are_joined(alloc, &mut machine.sets, call.parts.as_slice(), call.done.as_slice())? {
+        return Ok(Turn::Refused(Rule::C7));
+    }
+    Ok(Turn::Refused(Rule::C4))
+}
+
+/// Goes on with a call whose arguments are prepared: puts its text in its place. A text that is above
+/// the limit is never made.
 fn finish_call<'a>(
     alloc: Global,
     machine: &mut Machine<'a>,
@@ -154,13 +175,15 @@ fn finish_call<'a>(
     requires done { call.todo.items ≡ [] }
     ensures { IfOk result (λ r. (d : List ℕ → Option Macro) → Turned d machine.new r (TurnUpTo d machine.old (turn.Call call.entry)) (turn_weight machine.old (turn.Call call.entry))) }
 {
+    let parts = call.parts.as_slice();
+    let args = call.done.as_slice();
+    let least = least_count(parts, args);
+    if is_above(machine.units, least) {
+        let turn = refuse_call(alloc, machine, &call, least)?;
+        return Ok(turn);
+    }
     let set = machine.sets.common(call.name.set, call.last.set)?;
-    let text = text(
-        alloc,
-        &mut machine.sets,
-        call.parts.as_slice(),
-        call.done.as_slice(),
-    )?;
+    let text = text(alloc, &mut machine.sets, parts, args)?;
     machine.pend = call.rest;
     machine.out = call.out;
     let turn = put_in_place(machine, text, &call.name, set)?;
