@@ -159,3 +159,9 @@ tree_test q k = is_eq-slice_cmp q k
 
 pub tree_get : {X : Type 0} (q : List ℕ) (es : List (List ℕ × X)) → lookup (λ k. is_eq (slice_cmp nat_cmp q k)) es ≡ lookup (bytes_eq q) es
 tree_get q es = ap (λ (t : List ℕ → Bool). lookup t es) (λ i k. is_eq-slice_cmp q k i)
+
+-- the entry of a name in a tree is set
+pub tree_sets : {X : Type 0} (old new : List (List ℕ × X)) (name : List ℕ) (o : Option X)
+    → ((q : List ℕ) → lookup (λ k. is_eq (slice_cmp nat_cmp q k)) new ≡ cond (is_eq (slice_cmp nat_cmp name q)) o (lookup (λ k. is_eq (slice_cmp nat_cmp q k)) old))
+    → (q : List ℕ) → lookup (bytes_eq q) new ≡ cond (bytes_eq name q) o (lookup (bytes_eq q) old)
+tree_sets old new name o h q = sym (tree_get q new) ∙ (h q ∙ (ap (λ b. cond b o (lookup (λ k. is_eq (slice_cmp nat_cmp q k)) old)) (tree_test name q) ∙ ap (cond (bytes_eq name q) o) (tree_get q old)))

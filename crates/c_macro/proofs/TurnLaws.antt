@@ -262,13 +262,13 @@ none_of (Some ts) e = cc
 
 -- what is put in place of a call is above the limit, if its joins make tokens
 pub above_refused : (d : Macros) (m n : Machine) (f : Open) (least : ℕ) → KnownOpen m.sets f → f.todo.items ≡ []
-    → ((ts : List Marked) → joined (items (map part_data f.parts.items) (args_data m.sets f.done.items)) ≡ Some ts → least ≤ length ts) → most_units < m.units + 1 + least
-    → true ≡ is_some (joined (items (map part_data f.parts.items) (args_data m.sets f.done.items)))
+    → ((ts : List Marked) → joined (items (map part_data f.parts.now) (args_data m.sets f.done.items)) ≡ Some ts → least ≤ length ts) → most_units < m.units + 1 + least
+    → true ≡ is_some (joined (items (map part_data f.parts.now) (args_data m.sets f.done.items)))
     → Turned d n (turn.Refused C7) (TurnUpTo d m (turn.Call f)) (turn_weight m (turn.Call f))
 above_refused d m n f least k empty at_least far there =
     let fr : Frame = frame_of m.sets f in
     let todo : fr.todo ≡ [] = ap (λ xs. tasks_data m.sets (reverse xs)) empty in
-    let x = some_of (joined (items (map part_data f.parts.items) (args_data m.sets f.done.items))) there in
+    let x = some_of (joined (items (map part_data f.parts.now) (args_data m.sets f.done.items))) there in
     let h : Bars = with_bar (common_bars fr.name.bars fr.last.bars) fr.name.tok.spell in
     let new : List Marked = spaced_as fr.name.tok.spaced (add_bars h x.0) in
     let l : length new ≡ length x.0 = length_spaced fr.name.tok.spaced (add_bars h x.0) ∙ length_barred h x.0 in
@@ -282,12 +282,12 @@ above_refused d m n f least k empty at_least far there =
     }
 
 pub unjoined_refused : (d : Macros) (m n : Machine) (f : Open) → KnownOpen m.sets f → f.todo.items ≡ []
-    → false ≡ is_some (joined (items (map part_data f.parts.items) (args_data m.sets f.done.items)))
+    → false ≡ is_some (joined (items (map part_data f.parts.now) (args_data m.sets f.done.items)))
     → Turned d n (turn.Refused C4) (TurnUpTo d m (turn.Call f)) (turn_weight m (turn.Call f))
 unjoined_refused d m n f k empty there =
     let fr : Frame = frame_of m.sets f in
     let todo : fr.todo ≡ [] = ap (λ xs. tasks_data m.sets (reverse xs)) empty in
-    let x = none_of (joined (items (map part_data f.parts.items) (args_data m.sets f.done.items))) there in
+    let x = none_of (joined (items (map part_data f.parts.now) (args_data m.sets f.done.items))) there in
     let h : Bars = with_bar (common_bars fr.name.bars fr.last.bars) fr.name.tok.spell in
     let text : frame_text fr fr.done ≡ None = ap (option_map (λ (ts : List Marked). spaced_as fr.name.tok.spaced (add_bars h ts))) (ap (λ (ps : List Part). joined (items ps fr.done)) (sym k.parts) ∙ x) in
     record {
@@ -572,7 +572,7 @@ pub called_turned : (d : Macros) (m n : Machine) (tok : Pend) (b : Marked) (g : 
     → KnownMachine m → tok.set < set_count m.sets → macro_at d (mark m.sets tok) ≡ Some g.def.now → g.def.now.params ≡ Some names → is_punct (codes "(") b.tok ≡ true
     → Some c ≡ closed (commas_of names g.def.now.variadic) 0 (marks m.sets (reverse m.pend)) → c.last ≡ mark m.sets g.last → c.rest ≡ marks m.sets (reverse g.rest)
     → Some (rows_data m.sets rows) ≡ fitted names g.def.now.variadic c.args
-    → map part_data g.parts.items ≡ parts_of g.def.now (Some names) → tasks_data m.sets (reverse g.todo.items) ≡ tasks (map part_data g.parts.items) 0 (rows_data m.sets rows)
+    → map part_data g.parts.now ≡ parts_of g.def.now (Some names) → tasks_data m.sets (reverse g.todo.items) ≡ tasks (map part_data g.parts.now) 0 (rows_data m.sets rows)
     → g.last.set < set_count m.sets → KnownAll m.sets g.rest → KnownTasks m.sets g.todo.items
     → g.name ≡ tok → g.out.items ≡ m.out.items → g.written ≡ [] → g.done.items ≡ [] → n.sets ≡ m.sets → n.opens ≡ m.opens → n.units ≡ m.units → n.pend ≡ [] → n.out.items ≡ []
     → rows_size raws + length g.rest ≡ length m.pend → rows_size rows ≤ rows_size raws + 1 → todo_weight g.todo.items ≤ 2 * rows_size rows

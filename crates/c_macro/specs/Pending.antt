@@ -22,7 +22,7 @@ KnownAll s [] = Unit {0}
 KnownAll s (p ∷ ps) = (p.set < set_count s) × KnownAll s ps
 
 abbrev pub part_data : Part → bodies.Part
-part_data (part.Own t) = bodies.Own t.now
+part_data (part.Own t) = bodies.Own t
 part_data part.Join = bodies.Join
 part_data (part.Text s i) = bodies.Text s i
 part_data (part.Written s i) = bodies.Written s i

@@ -47,7 +47,7 @@ pub record KnownOpen (s : SetTable) (f : Open) : Type 0 where
   pub todo : KnownTasks s f.todo.items
   pub done : KnownArgs s f.done.items
   pub params : f.def.now.params ≡ Some (names_of f.def.now.params)
-  pub parts : map part_data f.parts.items ≡ parts_of f.def.now (Some (names_of f.def.now.params))
+  pub parts : map part_data f.parts.now ≡ parts_of f.def.now (Some (names_of f.def.now.params))
 
 abbrev pub KnownOpens : SetTable → List Open → Type 0
 KnownOpens s [] = Unit {0}

@@ -18,6 +18,7 @@ mod place;
 mod places;
 #[cfg(test)]
 mod plain;
+mod ready;
 mod row;
 mod same;
 mod sets;

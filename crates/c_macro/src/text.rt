@@ -130,7 +130,7 @@ fn feed_part(
     sets: &mut Sets,
     joiner: &mut Joiner,
     ends_only: bool,
-    part: &Part<'_>,
+    part: &Part,
     args: &[Given],
 ) -> Result<bool, AllocError>
     requires joiner { KnownJoiner sets.old joiner.old }
@@ -261,7 +261,7 @@ pub(crate) fn are_joined(
 }
 
 /// How many tokens a part puts in place before joins.
-fn part_count(part: &Part<'_>, args: &[Given]) -> usize
+fn part_count(part: &Part, args: &[Given]) -> usize
     ensures { (s : SetTable) → result ≡ ones_in (part_items (args_data s args.now) (part_data part.now)) }
 {
     match part {
@@ -274,7 +274,7 @@ fn part_count(part: &Part<'_>, args: &[Given]) -> usize
 }
 
 /// How many tokens a part takes away: a join makes one of two.
-fn join_count(part: &Part<'_>) -> usize
+fn join_count(part: &Part) -> usize
     ensures is { result ≡ (if is_join_part (part_data part.now) then 1 else 0) }
     ensures few { result ≤ 1 }
 {

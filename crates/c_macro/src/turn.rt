@@ -15,12 +15,12 @@ ghost use Rattle.c_macro.specs.Worklist.{frame_of, frames_of, KnownOpen, KnownMa
 ghost use Rattle.c_macro.specs.declared.turn.Turn.TheVariants as turn;
 
 use crate::collect::take_call;
-use crate::def::Def;
 use crate::defs::Defs;
 use crate::machine::{fit, macro_at, todos_of};
-use crate::part::{Part, parts};
+use crate::part::Part;
 use crate::pend::{Given, Pend, Todo};
 use crate::place::place;
+use crate::ready::Ready;
 use crate::row::{Pending, Row};
 use crate::sets::Sets;
 use crate::text::{are_joined, least_count, text};
@@ -36,8 +36,8 @@ const MOST_UNITS: u64 = 67_108_864;
 #[derive(Drop)]
 pub(crate) struct Open<'a> {
     name: Pend,
-    def: &'a Def,
-    parts: Vec<Part<'a>>,
+    def: &'a Ready,
+    parts: &'a [Part],
     last: Pend,
     rest: Pending,
     out: Vec<Pend>,
@@ -130,15 +130,15 @@ fn replace_object<'a>(
     alloc: Global,
     machine: &mut Machine<'a>,
     tok: Pend,
-    def: &'a Def,
+    def: &'a Ready,
 ) -> Result<Turn<'a>, AllocError>
     requires known { KnownMachine machine.old }
     requires tok { tok.set < set_count machine.old.sets }
+    requires object { def.now.params ≡ None }
     ensures { IfOk result (λ r. (d : List ℕ → Option Macro) → look d (mark machine.old.sets tok ∷ marks machine.old.sets (reverse machine.old.pend)) ≡ Object (mark machine.old.sets tok) def.now (marks machine.old.sets (reverse machine.old.pend))
         → Turned d machine.new r (LevelEnds d machine.old (mark machine.old.sets tok ∷ marks machine.old.sets (reverse machine.old.pend))) (turn_weight machine.old turn.Level + 2)) }
 {
-    let parts = parts(alloc, false, &[], false, def.body.as_slice())?;
-    let text = text(alloc, &mut machine.sets, parts.as_slice(), &[])?;
+    let text = text(alloc, &mut machine.sets, def.parts(), &[])?;
     let turn = put_in_place(machine, text, &tok, tok.set)?;
     Ok(turn)
 }
@@ -153,11 +153,11 @@ fn refuse_call<'a>(
     requires known { KnownMachine machine.old }
     requires call { KnownOpen machine.old.sets call.now }
     requires done { call.now.todo.items ≡ [] }
-    requires least { (ts : List Marked) → joined (items (map part_data call.now.parts.items) (args_data machine.old.sets call.now.done.items)) ≡ Some ts → least ≤ length ts }
+    requires least { (ts : List Marked) → joined (items (map part_data call.now.parts.now) (args_data machine.old.sets call.now.done.items)) ≡ Some ts → least ≤ length ts }
     requires above { most_units < machine.old.units + 1 + least }
     ensures { IfOk result (λ r. (d : List ℕ → Option Macro) → Turned d machine.new r (TurnUpTo d machine.old (turn.Call call.now)) (turn_weight machine.old (turn.Call call.now))) }
 {
-    if are_joined(alloc, &mut machine.sets, call.parts.as_slice(), call.done.as_slice())? {
+    if are_joined(alloc, &mut machine.sets, call.parts, call.done.as_slice())? {
         return Ok(Turn::Refused(Rule::C7));
     }
     Ok(Turn::Refused(Rule::C4))
@@ -175,7 +175,7 @@ fn finish_call<'a>(
     requires done { call.todo.items ≡ [] }
     ensures { IfOk result (λ r. (d : List ℕ → Option Macro) → Turned d machine.new r (TurnUpTo d machine.old (turn.Call call.entry)) (turn_weight machine.old (turn.Call call.entry))) }
 {
-    let parts = call.parts.as_slice();
+    let parts = call.parts;
     let args = call.done.as_slice();
     let least = least_count(parts, args);
     if is_above(machine.units, least) {
@@ -260,7 +260,7 @@ fn open_call<'a>(
     alloc: Global,
     machine: &mut Machine<'a>,
     tok: Pend,
-    def: &'a Def,
+    def: &'a Ready,
     names: &'a [Text],
 ) -> Result<Turn<'a>, AllocError>
     requires known { KnownMachine machine.old }
@@ -269,21 +269,20 @@ fn open_call<'a>(
     ensures { IfOk result (λ r. (d : List ℕ → Option Macro) (bracket : Marked) → is_punct (codes "(") bracket.tok ≡ true → macro_at d (mark machine.old.sets tok) ≡ Some def.now
         → Turned d machine.new r (LevelEnds d machine.old (mark machine.old.sets tok ∷ bracket ∷ marks machine.old.sets (reverse machine.old.pend))) (turn_weight machine.old turn.Level + 4)) }
 {
-    let variadic = def.variadic;
+    let variadic = def.is_variadic();
     let Some(taken) = take_call(alloc, &mut machine.pend, commas_of(names, variadic))? else {
         return Ok(Turn::Refused(Rule::C2));
     };
     let Some(args) = fit(alloc, names, variadic, taken.args)? else {
         return Ok(Turn::Refused(Rule::C3));
     };
-    let parts = parts(alloc, true, names, variadic, def.body.as_slice())?;
-    let todo = todos_of(alloc, parts.as_slice(), args)?;
+    let todo = todos_of(alloc, def.needs(), args)?;
     let rest = mem::replace(&mut machine.pend, Pending::none(alloc));
     let out = mem::replace(&mut machine.out, Vec::new(alloc));
     Ok(Turn::Call(Open {
         name: tok,
         def,
-        parts,
+        parts: def.parts(),
         last: taken.last,
         rest,
         out,
@@ -298,7 +297,7 @@ fn call_or_put<'a>(
     alloc: Global,
     machine: &mut Machine<'a>,
     tok: Pend,
-    def: &'a Def,
+    def: &'a Ready,
     names: &'a [Text],
 ) -> Result<Turn<'a>, AllocError>
     requires known { KnownMachine machine.old }
@@ -336,13 +335,13 @@ fn look_at<'a>(
         let turn = put(machine, tok)?;
         return Ok(turn);
     };
-    match &def.params {
+    match def.params() {
         None => {
             let turn = replace_object(alloc, machine, tok, def)?;
             Ok(turn)
         }
         Some(names) => {
-            let turn = call_or_put(alloc, machine, tok, def, names.as_slice())?;
+            let turn = call_or_put(alloc, machine, tok, def, names)?;
             Ok(turn)
         }
     }

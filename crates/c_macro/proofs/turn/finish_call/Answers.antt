@@ -1,5 +1,4 @@
 use Rattle.std.proofs.Common.{◌≡◌, ◌∙◌, ap, map, List, Some}
-use Rattle.c_macro.specs.declared.part.Part as declared_part
 use Rattle.c_macro.specs.declared.pend.Given.{Given}
 use Rattle.c_macro.specs.Bodies.{joined, items, Part, Arg, parts_of}
 use Rattle.c_macro.specs.Marked.{common_bars}
@@ -24,7 +23,7 @@ pub returns : goal.returns
 returns c = λ d.
     let g1 : Grown c.args.machine.now.sets c.common.new.self = c.in_ok-set.ensures.grown in
     let g2 : Grown c.common.new.self c.text.new.sets = c.in_ok-text.ensures.grown in
-    let ps : map part_data c.as_slice-parts.result.now ≡ parts_of c.args.call.def.now (Some (names_of c.args.call.def.now.params)) = ap (map part_data) c.as_slice-parts.ensures.value ∙ c.requires.call.parts in
+    let ps : map part_data c.args.call.parts.now ≡ parts_of c.args.call.def.now (Some (names_of c.args.call.def.now.params)) = c.requires.call.parts in
     let done : args_data c.common.new.self c.as_slice-args.result.now ≡ args_data c.args.machine.now.sets c.args.call.done.items =
     ap (args_data c.common.new.self) c.as_slice-args.ensures.value ∙ args_grow c.args.machine.now.sets c.common.new.self c.args.call.done.items g1 c.requires.call.done in
     let bars : bars_of c.text.new.sets c.in_ok-set.set ≡ common_bars (bars_of c.args.machine.now.sets c.args.call.name.set) (bars_of c.args.machine.now.sets c.args.call.last.set) =
@@ -36,5 +35,4 @@ returns c = λ d.
 
 pub refuse_call-requires-clause-least : goal.refuse_call-requires-clause-least
 refuse_call-requires-clause-least c = λ ts j.
-    c.least_count-least.ensures c.args.machine.now.sets ts (ap (λ (ps : List declared_part.Part). joined (items (map part_data ps) (args_data c.args.machine.now.sets c.as_slice-args.result.now))) c.as_slice-parts.ensures.value
-    ∙ (ap (λ (gs : List Given). joined (items (map part_data c.args.call.parts.items) (args_data c.args.machine.now.sets gs))) c.as_slice-args.ensures.value ∙ j))
+    c.least_count-least.ensures c.args.machine.now.sets ts (ap (λ (gs : List Given). joined (items (map part_data c.args.call.parts.now) (args_data c.args.machine.now.sets gs))) c.as_slice-args.ensures.value ∙ j)
