@@ -19,3 +19,5 @@ pub mod RunLaws
 pub mod RowLaws
 pub mod TakeLaws
 pub mod NeedLaws
+pub mod MoveLaws
+pub mod FollowLaws

@@ -4,6 +4,7 @@ pub mod Collecting
 pub mod Directive
 pub mod Expansion
 pub mod Joining
+pub mod Laws
 pub mod Machine
 pub mod MacroData
 pub mod Marked
