@@ -53,8 +53,7 @@ from_node s (n ∷ ns) (suc i) d h le =
     let t : List Numbers = s ++ x ∷ [] in
     let l : length t ≡ length s + 1 = length-append s (x ∷ []) in
     let r = from_node t ns i d (subst (λ k. AreEarlier k ns) (sym l) h.2) (omega arith) in
-    let e : length t + i ≡ length s + suc i = omega arith in
-    (
+    let e : length t + i ≡ length s + suc i = omega arith in (
       subst (λ k. set_in (sets_from t ns) k ≡ halved (set_in (sets_from t ns) (slice_index_or ns i d).evens) (set_in (sets_from t ns) (slice_index_or ns i d).odds)) e r.0,
       omega (arith, r.1, e),
       omega (arith, r.2, e),
@@ -275,7 +274,7 @@ pub either_made : (old mid new : List Node) (a b ae ao be bo e o : ℕ) → numb
 either_made old mid new a b ae ao be bo e o ha hb x y la lb le he ho =
     ap (λ (s : Numbers). halved s (numbers_of new o)) (numbers_keep mid new e y le ∙ he)
     ∙ (ap (halved (either_numbers (numbers_of old ae) (numbers_of old be)))
-      (ho ∙ (ap (λ (s : Numbers). either_numbers s (numbers_of mid bo)) (numbers_keep old mid ao x la) ∙ ap (either_numbers (numbers_of old ao)) (numbers_keep old mid bo x lb)))
+    (ho ∙ (ap (λ (s : Numbers). either_numbers s (numbers_of mid bo)) (numbers_keep old mid ao x la) ∙ ap (either_numbers (numbers_of old ao)) (numbers_keep old mid bo x lb)))
     ∙ halves_either (numbers_of old a) (numbers_of old b) (numbers_of old ae) (numbers_of old ao) (numbers_of old be) (numbers_of old bo) ha hb)
 
 pub common_made : (old mid new : List Node) (a b ae ao be bo e o : ℕ) → numbers_of old a ≡ halved (numbers_of old ae) (numbers_of old ao) → numbers_of old b ≡ halved (numbers_of old be) (numbers_of old bo)
@@ -285,7 +284,7 @@ pub common_made : (old mid new : List Node) (a b ae ao be bo e o : ℕ) → numb
 common_made old mid new a b ae ao be bo e o ha hb x y la lb le he ho =
     ap (λ (s : Numbers). halved s (numbers_of new o)) (numbers_keep mid new e y le ∙ he)
     ∙ (ap (halved (common_numbers (numbers_of old ae) (numbers_of old be)))
-      (ho ∙ (ap (λ (s : Numbers). common_numbers s (numbers_of mid bo)) (numbers_keep old mid ao x la) ∙ ap (common_numbers (numbers_of old ao)) (numbers_keep old mid bo x lb)))
+    (ho ∙ (ap (λ (s : Numbers). common_numbers s (numbers_of mid bo)) (numbers_keep old mid ao x la) ∙ ap (common_numbers (numbers_of old ao)) (numbers_keep old mid bo x lb)))
     ∙ halves_common (numbers_of old a) (numbers_of old b) (numbers_of old ae) (numbers_of old ao) (numbers_of old be) (numbers_of old bo) ha hb)
 
 pub even_made : (old mid : List Node) (set e o more k : ℕ) → numbers_of old set ≡ halved (numbers_of old e) (numbers_of old o) → Extends old mid → o < sets_count old

@@ -119,17 +119,17 @@ named_numbered numbers new nodes name number w n = record {
   ];
   apart = λ a b k ha hb. elim (cases_Bool (bytes_eq name a)) [
     | inl e ↦ elim (cases_Bool (bytes_eq name b)) [
-        | inl f ↦ eq_bytes a b (sym (same_bytes name a e) ∙ same_bytes name b f)
-        | inr f ↦
-            let c : Some number ≡ Some k = sym (n.updates a ∙ rw e refl) ∙ ha in let d : number ≡ k = cc in let z = n.next in
-            let l = w.below b k (sym (n.updates b ∙ rw f refl) ∙ hb) in absurd (omega (arith, d, z, l))
-      ]
+      | inl f ↦ eq_bytes a b (sym (same_bytes name a e) ∙ same_bytes name b f)
+      | inr f ↦
+          let c : Some number ≡ Some k = sym (n.updates a ∙ rw e refl) ∙ ha in let d : number ≡ k = cc in let z = n.next in
+          let l = w.below b k (sym (n.updates b ∙ rw f refl) ∙ hb) in absurd (omega (arith, d, z, l))
+    ]
     | inr e ↦ elim (cases_Bool (bytes_eq name b)) [
-        | inl f ↦
-            let c : Some number ≡ Some k = sym (n.updates b ∙ rw f refl) ∙ hb in let d : number ≡ k = cc in let z = n.next in
-            let l = w.below a k (sym (n.updates a ∙ rw e refl) ∙ ha) in absurd (omega (arith, d, z, l))
-        | inr f ↦ w.apart a b k (sym (n.updates a ∙ rw e refl) ∙ ha) (sym (n.updates b ∙ rw f refl) ∙ hb)
-      ]
+      | inl f ↦
+          let c : Some number ≡ Some k = sym (n.updates b ∙ rw f refl) ∙ hb in let d : number ≡ k = cc in let z = n.next in
+          let l = w.below a k (sym (n.updates a ∙ rw e refl) ∙ ha) in absurd (omega (arith, d, z, l))
+      | inr f ↦ w.apart a b k (sym (n.updates a ∙ rw e refl) ∙ ha) (sym (n.updates b ∙ rw f refl) ∙ hb)
+    ]
   ];
   sets = λ k i h. let l = w.sets k i h in let m = n.one_more in omega (arith, l, m);
 }

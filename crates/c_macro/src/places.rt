@@ -27,7 +27,7 @@ impl<'a> Model for Places<'a> {
     ghost use Rattle.std.specs.Prelude.{◌≡◌, List, ℕ};
     ghost use Rattle.std.specs.BTreeMap as tree;
     ghost use Rattle.std.specs.Ordering.{nat_cmp};
-ghost use Rattle.std.specs.Cmp.Lexicographic.{slice_cmp};
+    ghost use Rattle.std.specs.Cmp.Lexicographic.{slice_cmp};
     ghost use Rattle.c_macro.specs.Directive.{all_params};
     ghost use Rattle.c_macro.specs.Bodies.{place_of};
 

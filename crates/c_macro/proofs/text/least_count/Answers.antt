@@ -8,8 +8,7 @@ use Rattle.c_macro.proofs.text.least_count.Goals as goal
 pub loop-part-preserved : goal.loop-part-preserved
 loop-part-preserved c =
     let e : drop c.loop-part.part-index c.args.parts.now ≡ c.part-item.result ∷ drop (c.loop-part.part-index + 1) c.args.parts.now =
-    drop_more c.args.parts.now c.loop-part.part-index c.part-item.result c.loop-part-test.true ∙ ap (λ x. x ∷ drop (c.loop-part.part-index + 1) c.args.parts.now) (sym c.part-item.is) in
-    (
+    drop_more c.args.parts.now c.loop-part.part-index c.part-item.result c.loop-part-test.true ∙ ap (λ x. x ∷ drop (c.loop-part.part-index + 1) c.args.parts.now) (sym c.part-item.is) in (
       omega (arith, c.loop-part.invariant.0, c.join_count-joins.ensures.few),
       λ s. counting_goes _ _ _ _ _ _ _ _ _ (c.loop-part.invariant.1 s) (ap (map part_data) e) (omega (arith, c.saturating_add-toks.ensures, c.part_count.ensures s)) (omega (arith, c.join_count-joins.ensures.is)),
     )

@@ -13,13 +13,12 @@ returns-in_err-made-clause-below t c = λ most h.
     (omega (arith, c.halves-a_evens.ensures.odds, c.requires.a)) (omega (arith, c.halves-b_evens.ensures.odds, c.requires.b)) c.in_ok-evens.ensures.set.0 c.in_ok-evens.ensures.set.1 c.in_ok-odds.ensures.set.1))
 
 pub returns-clause-set : goal.returns-clause-set
-returns-clause-set t c =
-    (
-      c.in_ok-made.ensures.set.0,
-      c.in_ok-made.ensures.set.1
+returns-clause-set t c = (
+  c.in_ok-made.ensures.set.0,
+  c.in_ok-made.ensures.set.1
       ∙ either_made c.args.self.now c.either.new.self c.either-2.new.self c.args.a c.args.b _ _ _ _ c.in_ok-evens.evens c.in_ok-odds.odds c.halves-a_evens.ensures.is c.halves-b_evens.ensures.is c.in_ok-evens.ensures.extends c.in_ok-odds.ensures.extends
       (omega (arith, c.halves-a_evens.ensures.odds, c.requires.a)) (omega (arith, c.halves-b_evens.ensures.odds, c.requires.b)) c.in_ok-evens.ensures.set.0 c.in_ok-evens.ensures.set.1 c.in_ok-odds.ensures.set.1,
-    )
+)
 
 pub returns-clause-below : goal.returns-clause-below
 returns-clause-below t c = λ most h.

@@ -8,8 +8,7 @@ returns-then-is_first-clause-set t c = let f = c.is_first.ensures.first c.if-is_
 
 pub with-requires : goal.with-requires
 with-requires t c =
-    let o = c.is_first.ensures.other c.if-is_first.false in
-    (
+    let o = c.is_first.ensures.other c.if-is_first.false in (
       elim (cases_lt 1 c.args.set) [
         | inl h ↦ let e = c.halves-evens.ensures.earlier h in omega (arith, e.0, c.decreases)
         | inr h ↦ omega (arith, o, h, c.halves-evens.ensures.evens, c.decreases)
@@ -29,12 +28,11 @@ returns-in_err-made-clause-below t c = λ most h l.
     (even_made c.args.self.now c.with.new.self c.args.set _ _ c.in_ok-more.more c.args.number c.halves-evens.ensures.is c.in_ok-more.ensures.extends (omega (arith, c.halves-evens.ensures.odds, c.requires)) c.in_ok-more.ensures.set.1 (omega arith)))
 
 pub returns-in_ok-made-clause-set : goal.returns-in_ok-made-clause-set
-returns-in_ok-made-clause-set t c =
-    (
-      c.in_ok-made.ensures.set.0,
-      c.in_ok-made.ensures.set.1
+returns-in_ok-made-clause-set t c = (
+  c.in_ok-made.ensures.set.0,
+  c.in_ok-made.ensures.set.1
       ∙ even_made c.args.self.now c.with.new.self c.args.set _ _ c.in_ok-more.more c.args.number c.halves-evens.ensures.is c.in_ok-more.ensures.extends (omega (arith, c.halves-evens.ensures.odds, c.requires)) c.in_ok-more.ensures.set.1 (omega arith),
-    )
+)
 
 pub returns-in_ok-made-clause-below : goal.returns-in_ok-made-clause-below
 returns-in_ok-made-clause-below t c = λ most h l.
@@ -47,12 +45,11 @@ returns-in_err-made-2-clause-below t c = λ most h l.
     (odd_made c.args.self.now c.with-else-number-eq0.new.self c.args.set _ _ c.in_ok-more-2.more c.args.number c.halves-evens.ensures.is c.in_ok-more-2.ensures.extends (omega (arith, c.halves-evens.ensures.evens, c.requires)) c.in_ok-more-2.ensures.set.1 (omega (arith, c.if-number-eq0.false))))
 
 pub returns-in_ok-made-2-clause-set : goal.returns-in_ok-made-2-clause-set
-returns-in_ok-made-2-clause-set t c =
-    (
-      c.in_ok-made-2.ensures.set.0,
-      c.in_ok-made-2.ensures.set.1
+returns-in_ok-made-2-clause-set t c = (
+  c.in_ok-made-2.ensures.set.0,
+  c.in_ok-made-2.ensures.set.1
       ∙ odd_made c.args.self.now c.with-else-number-eq0.new.self c.args.set _ _ c.in_ok-more-2.more c.args.number c.halves-evens.ensures.is c.in_ok-more-2.ensures.extends (omega (arith, c.halves-evens.ensures.evens, c.requires)) c.in_ok-more-2.ensures.set.1 (omega (arith, c.if-number-eq0.false)),
-    )
+)
 
 pub returns-in_ok-made-2-clause-below : goal.returns-in_ok-made-2-clause-below
 returns-in_ok-made-2-clause-below t c = λ most h l.
