@@ -1,3 +1,0 @@
-pub mod Doubles
-pub mod Puts
-pub mod Runs
