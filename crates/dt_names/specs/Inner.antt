@@ -1,0 +1,19 @@
+-- Definitions that only the code's own states need: no promise is made of them.
+pub mod Alike
+pub mod Elems
+pub mod Firsts
+pub mod Groups
+pub mod Ids
+pub mod Kept
+pub mod Keys
+pub mod Left
+pub mod Lengths
+pub mod Lists
+pub mod Parts
+pub mod Places
+pub mod Rising
+pub mod Rows
+pub mod Scanned
+pub mod Sections
+pub mod Standing
+pub mod Words
