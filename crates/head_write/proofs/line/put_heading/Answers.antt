@@ -1,0 +1,26 @@
+use Rattle.std.proofs.Common.{codes, ◌++◌}
+use Rattle.head_write.specs.Header.{heading_text}
+use Rattle.head_write.proofs.Puts.{put_then, put_stops, not_done, failed}
+use Rattle.head_write.proofs.line.put_heading.Goals as goal
+
+pub returns-in_err-put : goal.returns-in_err-put
+unfolding heading_text
+returns-in_err-put g c =
+    rw c.in-Some.is
+    (not_done _ _ _ _ _ _ (failed c.from_residual.result c.from_residual.ensures.0)
+    (put_stops (g.S.Sink.seen c.args.out.now) (g.S.Sink.seen c.put.new.out) _ _ _ (codes "/* ") (c.in-Some.title.now ++ codes " */\n") c.in_err-put.ensures))
+
+pub returns-in_err-put-2 : goal.returns-in_err-put-2
+unfolding heading_text
+returns-in_err-put-2 g c =
+    rw c.in-Some.is
+    (not_done _ _ _ _ _ _ (failed c.from_residual-in_err-put-2.result c.from_residual-in_err-put-2.ensures.0)
+    (put_then _ (g.S.Sink.seen c.put.new.out) _ _ _ _ (codes "/* ") _ _ c.in_ok-put.ensures
+    (put_stops _ (g.S.Sink.seen c.put-2.new.out) _ _ _ c.in-Some.title.now (codes " */\n") c.in_err-put-2.ensures)))
+
+pub returns : goal.returns
+unfolding heading_text
+returns g c =
+    rw c.in-Some.is
+    (put_then _ (g.S.Sink.seen c.put.new.out) _ _ _ _ (codes "/* ") _ _ c.in_ok-put.ensures
+    (put_then _ (g.S.Sink.seen c.put-2.new.out) _ _ _ _ c.in-Some.title.now _ _ c.in_ok-put-2.ensures c.put-3.ensures))

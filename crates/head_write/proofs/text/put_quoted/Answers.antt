@@ -1,0 +1,21 @@
+use Rattle.std.proofs.Common.{◌∷◌, [], ◌++◌}
+use Rattle.std.specs.List.{flat_map}
+use Rattle.dt_names.specs.Pieces.{escaped}
+use Rattle.head_write.proofs.Puts.{put_then, put_stops, not_done, failed}
+use Rattle.head_write.proofs.text.put_quoted.Goals as goal
+
+pub returns-in_err-put_byte : goal.returns-in_err-put_byte
+returns-in_err-put_byte g c =
+    not_done _ _ _ _ _ _ (failed c.from_residual.result c.from_residual.ensures.0)
+    (put_stops (g.S.Sink.seen c.args.out.now) (g.S.Sink.seen c.put_byte.new.out) _ _ _ (34 ∷ []) (flat_map escaped c.args.text.now ++ 34 ∷ []) c.in_err-put_byte.ensures)
+
+pub returns-in_err-put_escaped : goal.returns-in_err-put_escaped
+returns-in_err-put_escaped g c =
+    not_done _ _ _ _ _ _ (failed c.from_residual-in_err-put_escaped.result c.from_residual-in_err-put_escaped.ensures.0)
+    (put_then _ (g.S.Sink.seen c.put_byte.new.out) _ _ _ _ (34 ∷ []) _ _ c.in_ok-put_byte.ensures
+    (put_stops _ (g.S.Sink.seen c.put_escaped.new.out) _ _ _ (flat_map escaped c.args.text.now) (34 ∷ []) c.in_err-put_escaped.ensures))
+
+pub returns : goal.returns
+returns g c =
+    put_then _ (g.S.Sink.seen c.put_byte.new.out) _ _ _ _ (34 ∷ []) _ _ c.in_ok-put_byte.ensures
+    (put_then _ (g.S.Sink.seen c.put_escaped.new.out) _ _ _ _ (flat_map escaped c.args.text.now) _ _ c.in_ok-put_escaped.ensures c.put_byte-2.ensures)
