@@ -4,8 +4,8 @@ ghost use Rattle.std.specs.Prelude.{◌≡◌, ◌++◌, ◌∷◌, [], OnOk, is
 ghost use Rattle.edt_base.specs.Outside.{Wrote};
 ghost use Rattle.edt_base.specs.Put.{Put};
 
-use arrayvec::ArrayVec;
 use crate::{Sink, WriteFailed, write_text};
+use arrayvec::ArrayVec;
 use std::marker::Model;
 
 /// How many bytes are held before they go to the sink.
