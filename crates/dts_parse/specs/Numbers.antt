@@ -1,16 +1,17 @@
 -- Numbers: decimal, octal with a leading 0 or hexadecimal behind `0x`, and a suffix U, L, UL, LL or ULL in either case.
 use Rattle.std.specs.Prelude.{ℕ, ◌+◌, ◌*◌, ◌^◌, Bool, true, false, ◌&&◌, ◌||◌, List, [], ◌∷◌, Option, Some, None, nat_eq, nat_lt, drop, take, codes, if◌then◌else◌}
 use Rattle.std.specs.List.{prefix_len, starts_with}
+use Rattle.edt_base.specs.Ascii.{lower_l, lower_u, upper_l, upper_u}
 use Rattle.edt_base.specs.SourceBytes.{is_digit, is_octal, is_hex}
 use Rattle.dts_parse.specs.Texts.{digit}
 use Rattle.dts_parse.specs.declared.sign.Sign.{Sign}
 use Rattle.dts_parse.specs.declared.sign.Sign.TheVariants as sign
 
 abbrev pub is_u : ℕ → Bool
-is_u b = nat_eq b 85 || nat_eq b 117
+is_u b = nat_eq b upper_u || nat_eq b lower_u
 
 abbrev pub is_l : ℕ → Bool
-is_l b = nat_eq b 76 || nat_eq b 108
+is_l b = nat_eq b upper_l || nat_eq b lower_l
 
 abbrev pub is_long : List ℕ → Bool
 is_long [] = true

@@ -3,6 +3,7 @@ use Rattle.std.specs.Prelude.{◌≡◌, ◌≢◌, ◌<◌, ◌≤◌, ℕ, Boo
 use Rattle.std.specs.Prelude.{◌⊎◌}
 use Rattle.std.specs.List.{list_all}
 use Rattle.std.specs.Str.{bytes_eq}
+use Rattle.edt_base.specs.Ascii.{ampersand, asterisk, caret, colon, comma, equals, exclamation, greater_than, hyphen, left_brace, left_bracket, left_parenthesis, less_than, percent, plus, question, right_brace, right_bracket, right_parenthesis, semicolon, slash, tilde, vertical_bar}
 use Rattle.edt_base.specs.declared.fault.End.{End}
 use Rattle.edt_base.specs.declared.fault.End.TheVariants as ending
 use Rattle.edt_base.specs.declared.fault.Place.TheVariants as places
@@ -50,28 +51,28 @@ directive_sign text =
 -- a sign of one byte
 abbrev pub byte_sign : ℕ → Sign
 byte_sign b =
-    if nat_eq b 123 then sign.LeftBrace else if nat_eq b 125 then sign.RightBrace
-    else if nat_eq b 91 then sign.LeftSquare else if nat_eq b 93 then sign.RightSquare
-    else if nat_eq b 40 then sign.LeftRound else if nat_eq b 41 then sign.RightRound
-    else if nat_eq b 60 then sign.Less else if nat_eq b 62 then sign.Greater
-    else if nat_eq b 47 then sign.Slash else if nat_eq b 58 then sign.Colon
-    else if nat_eq b 59 then sign.Semicolon else if nat_eq b 61 then sign.Equal
-    else if nat_eq b 44 then sign.Comma else if nat_eq b 45 then sign.Minus
-    else if nat_eq b 126 then sign.Tilde else if nat_eq b 33 then sign.Bang
-    else if nat_eq b 63 then sign.Question else if nat_eq b 42 then sign.Op op.Mul
-    else if nat_eq b 37 then sign.Op op.Rem else if nat_eq b 43 then sign.Op op.Add
-    else if nat_eq b 38 then sign.Op op.BitAnd else if nat_eq b 94 then sign.Op op.BitXor
-    else if nat_eq b 124 then sign.Op op.BitOr
+    if nat_eq b left_brace then sign.LeftBrace else if nat_eq b right_brace then sign.RightBrace
+    else if nat_eq b left_bracket then sign.LeftSquare else if nat_eq b right_bracket then sign.RightSquare
+    else if nat_eq b left_parenthesis then sign.LeftRound else if nat_eq b right_parenthesis then sign.RightRound
+    else if nat_eq b less_than then sign.Less else if nat_eq b greater_than then sign.Greater
+    else if nat_eq b slash then sign.Slash else if nat_eq b colon then sign.Colon
+    else if nat_eq b semicolon then sign.Semicolon else if nat_eq b equals then sign.Equal
+    else if nat_eq b comma then sign.Comma else if nat_eq b hyphen then sign.Minus
+    else if nat_eq b tilde then sign.Tilde else if nat_eq b exclamation then sign.Bang
+    else if nat_eq b question then sign.Question else if nat_eq b asterisk then sign.Op op.Mul
+    else if nat_eq b percent then sign.Op op.Rem else if nat_eq b plus then sign.Op op.Add
+    else if nat_eq b ampersand then sign.Op op.BitAnd else if nat_eq b caret then sign.Op op.BitXor
+    else if nat_eq b vertical_bar then sign.Op op.BitOr
     else sign.Other
 
 -- an operator of two bytes, by both
 abbrev pub double_sign : ℕ → ℕ → Sign
 double_sign a b =
-    if nat_eq b 61 then (if nat_eq a 60 then sign.Op op.Le else if nat_eq a 62 then sign.Op op.Ge
-    else if nat_eq a 61 then sign.Op op.Eq else sign.Op op.Ne)
-    else if nat_eq a 60 then sign.Op op.Shl
-    else if nat_eq a 62 then sign.Op op.Shr
-    else if nat_eq a 38 then sign.Op op.And
+    if nat_eq b equals then (if nat_eq a less_than then sign.Op op.Le else if nat_eq a greater_than then sign.Op op.Ge
+    else if nat_eq a equals then sign.Op op.Eq else sign.Op op.Ne)
+    else if nat_eq a less_than then sign.Op op.Shl
+    else if nat_eq a greater_than then sign.Op op.Shr
+    else if nat_eq a ampersand then sign.Op op.And
     else sign.Op op.Or
 
 abbrev pub punct_sign : List ℕ → Sign
