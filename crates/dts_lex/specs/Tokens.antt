@@ -123,8 +123,8 @@ directive_in [] bytes = 0
 directive_in (d ∷ ds) bytes = if starts_with nat_eq bytes d then length d else directive_in ds bytes
 
 -- the punctuators outside parentheses: ( ) [ ] { } < > / : ; = ,
-abbrev pub is_outer_sign : ℕ → Bool
-is_outer_sign b = nat_eq b left_parenthesis || nat_eq b right_parenthesis || nat_eq b left_bracket
+abbrev pub is_outer_punctuator : ℕ → Bool
+is_outer_punctuator b = nat_eq b left_parenthesis || nat_eq b right_parenthesis || nat_eq b left_bracket
     || nat_eq b right_bracket || nat_eq b left_brace || nat_eq b right_brace
     || nat_eq b less_than || nat_eq b greater_than
     || nat_eq b slash || nat_eq b colon || nat_eq b semicolon || nat_eq b equals || nat_eq b comma
@@ -149,12 +149,12 @@ at_double (a ∷ b ∷ rest) = is_double a b
 at_double _ = false
 
 -- how many bytes the punctuator at the start has, 0 without one; an open comment is none
-abbrev pub sign : Bool → List ℕ → ℕ
-sign rounds [] = 0
-sign rounds (b ∷ rest) =
+abbrev pub punctuator : Bool → List ℕ → ℕ
+punctuator rounds [] = 0
+punctuator rounds (b ∷ rest) =
     if starts_with nat_eq (b ∷ rest) (codes "/*") then 0
     else if rounds && at_double (b ∷ rest) then 2
-    else if is_outer_sign b || (rounds && is_operator b) then 1
+    else if is_outer_punctuator b || (rounds && is_operator b) then 1
     else 0
 
 abbrev pub sized : SpanKind → ℕ → Option Found
@@ -172,7 +172,7 @@ char rest = if nat_lt 0 (char_size rest) && at_quote (drop (char_size rest) rest
 abbrev pub mark : Opened → List ℕ → Option Found
 mark o bytes = if not (in_rounds o) && nat_lt 0 (directive_in directives bytes)
     then found kind.Directive (directive_in directives bytes)
-    else sized kind.Punct (sign (in_rounds o) bytes)
+    else sized kind.Punct (punctuator (in_rounds o) bytes)
 
 -- a text, both quotes with it
 abbrev pub text : List ℕ → Option Found
@@ -195,8 +195,8 @@ below zero = zero
 below (suc n) = n
 
 -- after a punctuator of one byte; within parentheses `<` and `>` are operators
-abbrev pub behind_sign : Opened → ℕ → Opened
-behind_sign o b =
+abbrev pub behind_punctuator : Opened → ℕ → Opened
+behind_punctuator o b =
     if nat_eq b left_parenthesis then record o { rounds = suc o.rounds }
     else if nat_eq b right_parenthesis then record o { rounds = below o.rounds }
     else if nat_eq b left_bracket then record o { squares = suc o.squares }
@@ -219,7 +219,7 @@ behind_directive o text =
 abbrev pub behind : Opened → SpanKind → List ℕ → Opened
 behind o kind.Number text = record o { numbers = below o.numbers }
 behind o kind.Directive text = behind_directive o text
-behind o kind.Punct (b ∷ []) = behind_sign o b
+behind o kind.Punct (b ∷ []) = behind_punctuator o b
 behind o _ text = o
 
 -- ---- the next token

@@ -6,8 +6,8 @@ use Rattle.edt_base.specs.SourceBytes.{is_octal, is_hex}
 use Rattle.dts_lex.specs.Tokens.{escape}
 use Rattle.dts_parse.specs.declared.script.Target.{Target}
 use Rattle.dts_parse.specs.declared.script.Target.TheVariants as target
-use Rattle.dts_parse.specs.declared.sign.Width.{Width}
-use Rattle.dts_parse.specs.declared.sign.Width.TheVariants.{Bits8, Bits16, Bits32, Bits64}
+use Rattle.dts_parse.specs.declared.terminal.Width.{Width}
+use Rattle.dts_parse.specs.declared.terminal.Width.TheVariants.{Bits8, Bits16, Bits32, Bits64}
 
 -- ---- digits
 

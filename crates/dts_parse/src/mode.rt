@@ -1,7 +1,7 @@
 //! Where in the grammar a parser stands.
 
 use crate::expr::{BinOp, UnOp};
-use crate::sign::{Form, Width};
+use crate::terminal::{Form, Width};
 
 /// Which statements stood at the top so far.
 #[derive(Clone, Copy)]
