@@ -54,12 +54,12 @@ fn all_plain(text: &[u8]) -> bool
 fn is_node_name(text: &[u8]) -> bool
     ensures { result ≡ is_node_name text.now }
 {
-    let (word, unit) = text.split_at(terminal_place(text));
+    let (word, unit) = text.split_at(at_place(text));
     is_node_word(word) && is_unit(unit)
 }
 
 /// How many bytes stand before the first `@`.
-fn terminal_place(text: &[u8]) -> usize
+fn at_place(text: &[u8]) -> usize
     ensures place { result ≡ prefix_len is_no_at text.now }
     ensures within { result ≤ length text.now }
 {
