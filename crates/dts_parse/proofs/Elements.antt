@@ -67,7 +67,7 @@ lone_ends base w l (Small n) p e = step_ends (kept_site (In_list w l)) (token (t
 lone_ends base w l Large p e = step_ends (kept_site (In_list w l)) (token terminal.Huge p) p.at refl (put_stops w true None p.at (kept_site (In_list w l)) e)
 lone_ends base w l (Letter n) p e = step_ends (kept_site (In_list w l)) (token (terminal.Char n) p) p.at refl (put_stops w false (Some n) p.at (kept_site (In_list w l)) e)
 
--- behind the first bracket
+-- after the first bracket
 abbrev opened_at : (base : Bool) (w : Width) → Listed base w → Spot → Shape
 opened_at base w l b = record (kept_site (In_list w l)) { begin = b.at }
 
@@ -121,7 +121,7 @@ inner_stops base w l b e s x is h k =
     by_rule S5 o = absurd o
     by_rule S6 o = absurd o
 
--- ---- what an expression spells stands behind what was before
+-- ---- what an expression spells stands after what was before
 
 pub record Behind (a before : List Token) : Type 0 where
   pub ext : List Token

@@ -44,7 +44,7 @@ position src base seen left s ha w b lb hb =
       | Longer r ↦ Beyond r.t r.ext r.parts
     ]
 
--- the next token behind them
+-- the next token after them
 pub record Next (src : List ℕ) (lb : Left) (t : Token) (after : Left) : Type 0 where
   pub span : Span
   pub is : next_of lb ≡ Ok (Some (span, after))
@@ -107,7 +107,7 @@ s1_place src base at o =
     let k : o.left.at + length o.left.bytes ≡ length src = within_source src (spell_front o.front) o.left o.tokens in
     none_place src base (spell_front o.front) at o.left (next_of o.left) refl (omega arith) o.none
 
--- tokens beyond a token that is there: the token, and what is left behind it is not behind them
+-- tokens beyond a token that is there: the token, and what is left after it is not after them
 pub record Passed (src : List ℕ) (seen : List Token) (y t : Token) (next lb : Left) : Type 0 where
   pub same : y ≡ t
   pub at : next.at ≤ lb.at
@@ -129,7 +129,7 @@ s5_not_ok src base at o s w = misfit_not_ok base o.w o.l o.e s o.misfit w
 abbrev pub Order : ℕ → Breach → ℕ → Breach → Type 0
 Order at rule other_at other = (at < other_at) ⊎ ((at ≡ other_at) × ((other ≡ rule) ⊎ (other ≡ S1)))
 
--- no token is next behind these
+-- no token is next after these
 abbrev pub NoNext : Left → Type 0
 NoNext left = (span : Span) (next : Left) → next_of left ≡ Ok (Some (span, next)) → ⊥
 
@@ -142,7 +142,7 @@ beyond_next src seen b ext y left lb ha hb parts none =
 pub there_left : (src : List ℕ) (seen b : List Token) (left lb : Left) → AreTokens src seen left → AreTokens src b lb → seen ≡ b → left ≡ lb
 there_left src seen b left lb ha hb e = left_same src b left lb (subst (λ (z : List Token). AreTokens src z left) e ha) hb
 
--- behind the last token only S1 can stand, at what is there
+-- after the last token only S1 can stand, at what is there
 pub others_none : (src : List ℕ) (base : Bool) (seen : List Token) (left : Left) (s : Shape) → AreTokens src seen left → walk base seen ≡ Ok s → NoNext left
     → (rule : Breach) (at : ℕ) → IsBroken src base rule at → (rule ≡ S1) × NoneTakes src base seen at (next_of left)
 others_none src base seen left s ha w none S1 at o =

@@ -136,7 +136,7 @@ or_last : (a b : Bool) → b ≡ true → (a || b) ≡ true
 or_last true b e = refl
 or_last false b e = e
 
--- behind labels alone a property, or a node
+-- after labels alone a property, or a node
 reads_prop_name : (base : Bool) (ps : Pieces) (lead : Lead) (f : Form) (n : Name f) → takes_inner (place base ps) ≡ true → is_empty (marks_of lead) ≡ true → Reads true base (spell_pieces ps) (resting base ps)
     → Reads true base (name_token f n ∷ spell_lead lead (spell_pieces ps)) (record (leading base ps lead) { mode = mode.Named f; name = Some n.spot })
 reads_prop_name base ps lead f n inner bare h =

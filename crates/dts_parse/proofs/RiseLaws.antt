@@ -94,7 +94,7 @@ stack_bare base (Open_child ps lead f n brace) = (omits_bare (marks_of lead) n.s
 stack_bare base (Flag_ ps lead f n semicolon) = stack_bare base ps
 stack_bare base (Assign_ ps lead f n equal b ls part after semicolon) = stack_bare base ps
 
--- ---- what is spelled stands behind what was before
+-- ---- what is spelled stands after what was before
 
 behind_none : (b : List Token) → Behind b b
 behind_none b = record { ext = []; parts = refl }
@@ -177,7 +177,7 @@ at_token src t b l h =
     let e : t.spot.at ≡ f.span.start = (let F : Token → ℕ = λ z. z.spot.at in ap F f.token_is) in
     record { left = f.left; tokens = f.tokens; from = omega (arith, e, p.from); to = omega (arith, e, p.to) }
 
--- a reference behind what is read
+-- a reference after what is read
 with_ref : (src : List ℕ) (p : Spot) (a b : List Token) (l : Left) (xs : List StmtData) (x : StmtData) → AreTokens src (token terminal.Ref p ∷ a) l → Behind a b → refs (x ∷ []) ≡ p.at ∷ []
     → ((m : Left) → AreTokens src b m → RiseTo m.at xs) → RiseTo l.at (xs ++ x ∷ [])
 with_ref src p a b l xs x h k e go =

@@ -345,7 +345,7 @@ sound_operand base w l begin x proper terminal.Tilde p = grown (Before_operand w
 sound_operand base w l begin x proper terminal.Bang p = grown (Before_operand w l begin (In_un x Not p) (room_some x, proper)) refl refl tt
 sound_operand base w l begin x proper _ p = refl
 
--- what is kept behind an operand that is no more than a number or brackets
+-- what is kept after an operand that is no more than a number or brackets
 abbrev pub lone_kept : (base : Bool) (w : Width) → Listed base w → (begin : Spot) → Waiting → Tree → Shape
 lone_kept base w l begin x e = record (kept_site (In_list w l)) {
   mode = mode.Operator w (worth_of e);
@@ -386,7 +386,7 @@ sound_tested base w l begin x proper e is fits lone p =
     (ap (λ ts. token terminal.Question p ∷ ts) (r.spells _))
     (waiting_same base w l begin _ _ _ _ _ _ (frame.Cond (worth_of r.u) ∷ frames_of r.y) (r.rounds_same _) (ap (λ (n : ℕ). more n) (r.counts 1)) r.larges) tt)
 
--- behind `:` and `)`, by the case that is left
+-- after `:` and `)`, by the case that is left
 chosen_by : (base : Bool) (w : Width) (l : Listed base w) (begin : Spot) (f : Front base) (s : Shape) (p : Spot) (y : Waiting) (u : Tree)
     → spell u (spell_waiting y (token terminal.LeftRound begin ∷ spell_listed l)) ≡ spell_front f
     → s ≡ record (waiting_at base w l begin (rounds y (suc (suc (braces l.top)))) (count u (count_waiting y 1)) (large u (large_waiting y)) s.frames) { mode = s.mode }
@@ -447,7 +447,7 @@ sound_closed base w l begin x proper e is fits lone p =
     (closed_by base w l begin (After_operand w l begin x proper e is fits) (lone_kept base w l begin x e) p r.y r.u (r.spells _)
     (lone_same base w l begin x e r.y r.u r.rounds_same r.counts r.larges) r.proper r.is)
 
--- each token behind a lone operand
+-- each token after a lone operand
 sound_lone : (base : Bool) (w : Width) (l : Listed base w) (begin : Spot) (x : Waiting) (proper : AreProper x) (e : Tree) (is : IsProper e) (fits : level e ≤ room x) (lone : level e ≡ 0) (t : Terminal) (p : Spot)
     → Sound base (After_operand w l begin x proper e is fits) (token t p) (behind_operand w (worth_of e) (lone_kept base w l begin x e) p t)
 sound_lone base w l begin x proper e is fits lone terminal.RightRound p = sound_closed base w l begin x proper e is fits lone p

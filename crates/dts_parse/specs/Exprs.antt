@@ -1,4 +1,4 @@
--- Expressions: their trees, what they spell, and what they are worth. What is spelled stands behind the tokens before
+-- Expressions: their trees, what they spell, and what they are worth. What is spelled stands after the tokens before
 -- it, the last token first.
 use Rattle.std.specs.Prelude.{◌≤◌, ◌<◌, ℕ, zero, suc, Bool, true, false, List, ◌∷◌, Option, Some, None, nat_le, option_map, if◌then◌else◌}
 use Rattle.dts_parse.specs.Token.{Token, Spot, token, un_terminal, bin_terminal, op_level}

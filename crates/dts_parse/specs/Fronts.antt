@@ -21,7 +21,7 @@ fits_lead p No_lead = true
 fits_lead p (Label_lead lead n colon) = takes_inner p || (takes_top p && is_empty (marks_of lead))
 fits_lead p (Mark_lead lead directive) = takes_inner p
 
--- a name may stand as a label, a property's name or a node's name; behind a mark as one of a node or a label alone
+-- a name may stand as a label, a property's name or a node's name; after a mark as one of a node or a label alone
 abbrev pub may_name : Place → Bool → Form → Bool
 may_name p bare f = (takes_inner p && (bare || is_node_form f)) || (takes_top p && is_label_form f)
 
@@ -92,7 +92,7 @@ pub record Beginning (base : Bool) : Type 0 where
 abbrev pub spell_beginning : {base : Bool} → Beginning base → List Token
 spell_beginning b = token terminal.Equal b.equal ∷ name_token b.f b.n ∷ spell_lead b.lead (spell_pieces b.ps)
 
--- an open list, with the labels behind its last element
+-- an open list, with the labels after its last element
 pub record Listed (base : Bool) (w : Width) : Type 0 where
   pub top : Beginning base
   pub b : Before

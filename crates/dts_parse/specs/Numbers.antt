@@ -1,4 +1,4 @@
--- Numbers: decimal, octal with a leading 0 or hexadecimal behind `0x`, and a suffix U, L, UL, LL or ULL in either case.
+-- Numbers: decimal, octal with a leading 0 or hexadecimal after `0x`, and a suffix U, L, UL, LL or ULL in either case.
 use Rattle.std.specs.Prelude.{ℕ, ◌+◌, ◌*◌, ◌^◌, Bool, true, false, ◌&&◌, ◌||◌, List, [], ◌∷◌, Option, Some, None, nat_eq, nat_lt, drop, take, codes, if◌then◌else◌}
 use Rattle.std.specs.List.{prefix_len, starts_with}
 use Rattle.edt_base.specs.Ascii.{lower_l, lower_u, upper_l, upper_u}
@@ -36,7 +36,7 @@ abbrev pub number_terminal : Option ℕ → Terminal
 number_terminal None = terminal.Huge
 number_terminal (Some n) = terminal.Number n
 
--- n digits at the front, at least one, and a suffix behind them
+-- n digits at the front, at least one, and a suffix after them
 abbrev pub number_of_digits : ℕ → ℕ → List ℕ → Terminal
 number_of_digits base n text =
     if nat_lt 0 n && is_suffix (drop n text) then number_terminal (digits_worth base (Some 0) (take n text)) else terminal.Other

@@ -102,7 +102,7 @@ slice_of src span = slice_range src span.start span.end
 abbrev pub token_of : List ℕ → Span → Token
 token_of src span = token (terminal_of span.kind (slice_of src span)) (record { at = span.start; text = slice_of src span })
 
--- these are the first tokens of the source, the last one first, and this is left behind them
+-- these are the first tokens of the source, the last one first, and this is left after them
 abbrev pub AreTokens : List ℕ → List Token → Left → Type 0
 AreTokens src [] left = left ≡ whole src
 AreTokens src (t ∷ before) left = (mid : Left) × (span : Span) × AreTokens src before mid

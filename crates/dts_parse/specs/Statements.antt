@@ -40,7 +40,7 @@ abbrev pub is_empty : {A : Type 0} → List A → Bool
 is_empty [] = true
 is_empty (x ∷ xs) = false
 
--- a mark is a statement on the child, behind its end
+-- a mark is a statement on the child, after its end
 abbrev pub omits : List ℕ → List ℕ → List StmtData
 omits [] name = []
 omits (at ∷ marks) name = stmt at (Omit (target.Child name)) ∷ omits marks name
@@ -150,7 +150,7 @@ place_behind p (Version_ d) = early p
 place_behind p (End_node brace) = outside p
 place_behind p _ = beyond p
 
--- the statements behind it
+-- the statements after it
 abbrev pub with_short : Place → Short → List StmtData → List StmtData
 with_short p (Version_ d) before = before
 with_short p (Plugin_ d) before = before
@@ -214,7 +214,7 @@ AreFit base (Flag_ ps lead f n semicolon) = AreFit base ps × (takes_inner (plac
 AreFit base (Assign_ ps lead f n equal b ls part after semicolon) =
     AreFit base ps × (takes_inner (place base ps) ≡ true) × (is_empty (marks_of lead) ≡ true) × (is_prop_form f ≡ true)
 
--- the statements: a node's labels behind its opening, its marks behind its end
+-- the statements: a node's labels after its opening, its marks after its end
 abbrev pub script : Bool → Pieces → List StmtData
 script base Nothing_yet = []
 script base (Short_ ps s semicolon) = with_short (place base ps) s (script base ps)

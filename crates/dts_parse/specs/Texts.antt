@@ -36,7 +36,7 @@ abbrev pub octal : ℕ → List ℕ → ℕ
 octal a [] = a - digit_0
 octal a (b ∷ rest) = if is_octal b then octal_two a b rest else a - digit_0
 
--- behind `x` up to two hexadecimal digits; without one it stands for itself
+-- after `x` up to two hexadecimal digits; without one it stands for itself
 abbrev pub hexes_two : ℕ → List ℕ → ℕ
 hexes_two a [] = digit a
 hexes_two a (b ∷ rest) = if is_hex b then two_digits 16 (digit a) (digit b) else digit a
@@ -84,7 +84,7 @@ abbrev pub begins_path : List ℕ → Bool
 begins_path [] = false
 begins_path (b ∷ rest) = nat_eq b left_brace
 
--- what a reference names: behind its `&` a path in braces, or a label
+-- what a reference names: after its `&` a path in braces, or a label
 abbrev pub target_of : List ℕ → Target
 target_of [] = target.ByLabel []
 target_of (a ∷ rest) = if begins_path rest then target.ByPath (within 1 rest) else target.ByLabel rest
@@ -104,7 +104,7 @@ element_bytes Bits16 n = to_be_bytes w16 (n % 2 ^ 16)
 element_bytes Bits32 n = []
 element_bytes Bits64 n = to_be_bytes w64 n
 
--- the number behind `/bits/`
+-- the number after `/bits/`
 abbrev pub width_of : ℕ → Option Width
 width_of n = if nat_eq n 8 then Some Bits8 else if nat_eq n 16 then Some Bits16 else if nat_eq n 32 then Some Bits32
     else if nat_eq n 64 then Some Bits64 else None

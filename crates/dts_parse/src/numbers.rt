@@ -9,7 +9,7 @@ ghost use Rattle.dts_parse.specs.Texts.{digit};
 use crate::bytes::{digit, is_digit, is_hex, is_octal};
 use crate::terminal::Terminal;
 
-/// A word as a number: decimal, octal with a leading 0 or hexadecimal behind `0x`, with a suffix.
+/// A word as a number: decimal, octal with a leading 0 or hexadecimal after `0x`, with a suffix.
 pub(crate) fn number(text: &[u8]) -> Terminal
     ensures { result ≡ number text.now }
 {
@@ -44,7 +44,7 @@ fn decimal_length(text: &[u8]) -> usize
     text.iter().take_while(|byte| is_digit(**byte)).count()
 }
 
-/// The number that so many digits at the front are, with a suffix behind them.
+/// The number that so many digits at the front are, with a suffix after them.
 fn number_of_digits(base: u64, count: usize, text: &[u8]) -> Terminal
     requires { count ≤ length text.now }
     ensures { result ≡ number_of_digits base count text.now }

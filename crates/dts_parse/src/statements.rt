@@ -106,7 +106,7 @@ impl<'a> Parser<'a> {
             || (self.takes_top() && is_label_form(form))
     }
 
-    /// Where a statement may begin, or behind labels and marks.
+    /// Where a statement may begin, or after labels and marks.
     pub(crate) fn in_body(&mut self, alloc: Global, token: &Token<'a>) -> Result<(), Stop>
         ensures { Leaves (shown self.new) result
             (in_body (shown self.old) token.now.spot token.now.terminal) }
@@ -172,7 +172,7 @@ impl<'a> Parser<'a> {
         })
     }
 
-    /// A root or a node by reference: its opening, and its labels behind it.
+    /// A root or a node by reference: its opening, and its labels after it.
     fn enter(&mut self, opening: Stmt) -> Result<(), Stop>
         ensures { Leaves (shown self.new) result
             (Ok (record (shown self.old) {

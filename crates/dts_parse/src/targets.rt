@@ -57,7 +57,7 @@ fn begins_path(text: &[u8]) -> bool
     }
 }
 
-/// The marks on a child, as statements behind its end.
+/// The marks on a child, as statements after its end.
 pub(crate) fn omits(alloc: Global, marks: &[u64], name: &[u8]) -> Result<Vec<Stmt>, AllocError>
     requires { list_all is_ascii name.now ≡ true }
     ensures { IfOk result (λ v. v.items ≡ omits marks.now name.now) }

@@ -25,7 +25,7 @@ pub fn emit<S: Sink>(bound: &Bound, out: &mut S) -> Result<(), WriteFailed>
     flush(out, &mut block)
 }
 
-/// Writes the line of a definition: `#define`, its name and its parameters, and its body behind a
+/// Writes the line of a definition: `#define`, its name and its parameters, and its body after a
 /// space where that isn't empty. With `WriteFailed`, which comes only where the sink's count of
 /// faults rose, a front of it was written. Takes no memory.
 pub fn emit_fact<S: Sink>(fact: &Fact<'_>, out: &mut S) -> Result<(), WriteFailed>

@@ -16,7 +16,7 @@ use itoa::Buffer;
 const CHUNK: usize = 64;
 
 #[inline(always)]
-/// Puts pieces, spelled one behind the other.
+/// Puts pieces, spelled one after the other.
 pub(crate) fn put_pieces<S: Sink>(
     out: &mut S,
     block: &mut Block,

@@ -435,7 +435,7 @@ in_rounds (mode.Operand w) = true
 in_rounds (mode.Operator w v) = true
 in_rounds _ = false
 
--- behind 4,096 tokens of an expression whatever continues it is one too many
+-- after 4,096 tokens of an expression whatever continues it is one too many
 abbrev pub limited_by : Breach → Spot → Fault → Step
 limited_by S1 p f = Err f
 limited_by _ p f = stop S2 p
@@ -452,7 +452,7 @@ step s t =
     else if nat_le 4096 s.long then limited t.spot (taken s t.spot t.terminal)
     else taken s t.spot t.terminal
 
--- a token behind others
+-- a token after others
 abbrev pub step_on : Token → Step → Step
 step_on t (Ok s) = step s t
 step_on t (Err f) = Err f
