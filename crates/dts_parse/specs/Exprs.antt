@@ -37,7 +37,8 @@ pub data Tree : Type 0 where
 
 abbrev pub spell : Tree → List Token → List Token
 spell (Num l p) before = token (literal_terminal l) p ∷ before
-spell (Round begin e finish) before = token terminal.RightRound finish ∷ spell e (token terminal.LeftRound begin ∷ before)
+spell (Round begin e finish) before =
+    token terminal.RightRound finish ∷ spell e (token terminal.LeftRound begin ∷ before)
 spell (Un o p e) before = spell e (token (un_terminal o) p ∷ before)
 spell (Bin l o p r) before = spell r (token (bin_terminal o) p ∷ spell l before)
 spell (Cond c q a k b) before = spell b (token terminal.Colon k ∷ spell a (token terminal.Question q ∷ spell c before))

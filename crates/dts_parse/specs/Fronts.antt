@@ -154,7 +154,8 @@ spell_front (At_colon s n) = name_token form.Label n ∷ spell_site s
 spell_front (At_bits top b ls directive) =
     token terminal.Bits directive ∷ spell_labels ls (spell_before b (spell_beginning top))
 spell_front (At_angle top b ls directive n w is number) =
-    token (terminal.Number n) number ∷ token terminal.Bits directive ∷ spell_labels ls (spell_before b (spell_beginning top))
+    token (terminal.Number n) number ∷ token terminal.Bits directive ∷ spell_labels ls
+    (spell_before b (spell_beginning top))
 spell_front (Before_operand w l begin x proper) = spell_waiting x (token terminal.LeftRound begin ∷ spell_listed l)
 spell_front (After_operand w l begin x proper e is fits) =
     spell e (spell_waiting x (token terminal.LeftRound begin ∷ spell_listed l))

@@ -39,7 +39,8 @@ number_terminal (Some n) = terminal.Number n
 -- n digits at the front, at least one, and a suffix after them
 abbrev pub number_of_digits : ℕ → ℕ → List ℕ → Terminal
 number_of_digits base n text =
-    if nat_lt 0 n && is_suffix (drop n text) then number_terminal (digits_worth base (Some 0) (take n text)) else terminal.Other
+    if nat_lt 0 n && is_suffix (drop n text) then number_terminal (digits_worth base (Some 0) (take n text))
+    else terminal.Other
 
 -- a word as a number
 abbrev pub number : List ℕ → Terminal

@@ -53,7 +53,8 @@ abbrev pub byte_terminal : ℕ → Terminal
 byte_terminal b =
     if nat_eq b left_brace then terminal.LeftBrace else if nat_eq b right_brace then terminal.RightBrace
     else if nat_eq b left_bracket then terminal.LeftSquare else if nat_eq b right_bracket then terminal.RightSquare
-    else if nat_eq b left_parenthesis then terminal.LeftRound else if nat_eq b right_parenthesis then terminal.RightRound
+    else if nat_eq b left_parenthesis then terminal.LeftRound
+    else if nat_eq b right_parenthesis then terminal.RightRound
     else if nat_eq b less_than then terminal.Less else if nat_eq b greater_than then terminal.Greater
     else if nat_eq b slash then terminal.Slash else if nat_eq b colon then terminal.Colon
     else if nat_eq b semicolon then terminal.Semicolon else if nat_eq b equals then terminal.Equal
@@ -68,7 +69,8 @@ byte_terminal b =
 -- an operator of two bytes, by both
 abbrev pub double_terminal : ℕ → ℕ → Terminal
 double_terminal a b =
-    if nat_eq b equals then (if nat_eq a less_than then terminal.Op op.Le else if nat_eq a greater_than then terminal.Op op.Ge
+    if nat_eq b equals then (if nat_eq a less_than then terminal.Op op.Le
+    else if nat_eq a greater_than then terminal.Op op.Ge
     else if nat_eq a equals then terminal.Op op.Eq else terminal.Op op.Ne)
     else if nat_eq a less_than then terminal.Op op.Shl
     else if nat_eq a greater_than then terminal.Op op.Shr
@@ -100,7 +102,8 @@ abbrev pub slice_of : List ℕ → Span → List ℕ
 slice_of src span = slice_range src span.start span.end
 
 abbrev pub token_of : List ℕ → Span → Token
-token_of src span = token (terminal_of span.kind (slice_of src span)) (record { at = span.start; text = slice_of src span })
+token_of src span =
+    token (terminal_of span.kind (slice_of src span)) (record { at = span.start; text = slice_of src span })
 
 -- these are the first tokens of the source, the last one first, and this is left after them
 abbrev pub AreTokens : List ℕ → List Token → Left → Type 0

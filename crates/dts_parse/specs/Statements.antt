@@ -21,7 +21,8 @@ pub data Lead : Type 0 where
 
 abbrev pub spell_lead : Lead → List Token → List Token
 spell_lead No_lead before = before
-spell_lead (Label_lead lead n colon) before = token terminal.Colon colon ∷ name_token form.Label n ∷ spell_lead lead before
+spell_lead (Label_lead lead n colon) before =
+    token terminal.Colon colon ∷ name_token form.Label n ∷ spell_lead lead before
 spell_lead (Mark_lead lead directive) before = token terminal.Omit directive ∷ spell_lead lead before
 
 -- each label is a statement of its own

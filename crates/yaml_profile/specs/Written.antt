@@ -502,7 +502,8 @@ abbrev mutual
 
   pub spell_entries : ℕ → Entries → List ℕ
   spell_entries column (First k x) = spell_key k ++ colon ∷ spell_node x
-  spell_entries column (Next es k x) = spell_entries column es ++ (spaces column ++ (spell_key k ++ colon ∷ spell_node x))
+  spell_entries column (Next es k x) =
+      spell_entries column es ++ (spaces column ++ (spell_key k ++ colon ∷ spell_node x))
 
   pub spell_items : ℕ → Items → List ℕ
   spell_items column (FirstItem i) = hyphen ∷ spell_item column i

@@ -311,7 +311,8 @@ abbrev pub in_cells : Width → Listing → Shape → Spot → Terminal → Step
 in_cells w l s p (terminal.Number n) = put w false (Some n) p.at s
 in_cells w l s p terminal.Huge = put w true None p.at s
 in_cells w l s p (terminal.Char n) = put w false (Some n) p.at s
-in_cells w l s p terminal.LeftRound = Ok (record s { mode = mode.Operand w; depth = suc s.depth; begin = p.at; long = 1 })
+in_cells w l s p terminal.LeftRound =
+    Ok (record s { mode = mode.Operand w; depth = suc s.depth; begin = p.at; long = 1 })
 in_cells w l s p terminal.Ref = at_ref w s p
 in_cells w l s p terminal.Greater = closed_list w l s p
 in_cells w l s p (terminal.Name f) = waits_colon f s p
