@@ -20,16 +20,16 @@ filter_below (f ∷ fs) = fs
 pub data AddsAt : List LevelTable → ℕ → LevelTable → List LevelTable → Type 0 where
   behind : (l : LevelTable) → AddsAt [] 0 l (l ∷ [])
   onto : (a : LevelTable) (rest : List LevelTable) (l j : LevelTable) → JoinsLevel a l j
-    → AddsAt (a ∷ rest) 0 l (j ∷ rest)
+      → AddsAt (a ∷ rest) 0 l (j ∷ rest)
   below : (a : LevelTable) (rest : List LevelTable) (n : ℕ) (l : LevelTable) (js : List LevelTable)
-    → AddsAt rest n l js → AddsAt (a ∷ rest) (suc n) l (a ∷ js)
+      → AddsAt rest n l js → AddsAt (a ∷ rest) (suc n) l (a ∷ js)
 
 -- the levels of an included file come to those that are there, the first of them at level n, as far
 -- as the filter lets them through
 pub data AddsFrom : List LevelTable → ℕ → List LevelTable → List FilterLevel → List LevelTable → Type 0 where
   no_more : (rest : List LevelTable) (n : ℕ) (filter : List FilterLevel) → AddsFrom rest n [] filter rest
   one_more : (rest : List LevelTable) (n : ℕ) (l : LevelTable) (ls : List LevelTable) (filter : List FilterLevel)
-    (bs cs : List LevelTable)
+      (bs cs : List LevelTable)
       → AddsAt rest n (passed (top_filter filter) l) bs → AddsFrom bs (suc n) ls (filter_below filter) cs
       → AddsFrom rest n (l ∷ ls) filter cs
 

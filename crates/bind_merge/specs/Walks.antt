@@ -32,9 +32,9 @@ abbrev pub record_walk : List FileData → Bool → (ℕ → Option Fault) → L
 record_walk files deep rest path name levels =
     let includes = includes_from 0 levels in
     or_else (fault_if (list_any (λ (e : ℕ × IncludeData). is_several (named_files files e.1.name)) includes)
-      (file_fault rule.B14 name))
+    (file_fault rule.B14 name))
     (or_else (fault_if (list_any (λ (e : ℕ × IncludeData). is_barred deep path (named_files files e.1.name)) includes)
-      (file_fault rule.B9 name))
+    (file_fault rule.B9 name))
     (first_some (λ (e : ℕ × IncludeData). follow rest (named_files files e.1.name)) includes))
 
 abbrev pub file_walk : List FileData → Bool → (ℕ → Option Fault) → List ℕ → List ℕ
