@@ -11,3 +11,8 @@ pub mod Trimming
 pub mod Carrying
 pub mod Following
 pub mod Referring
+pub mod Walking
+pub mod Gathering
+pub mod Ordering
+pub mod Measuring
+pub mod Sizing

@@ -1,3 +1,7 @@
--- Definitions that only the code's own states need: no promise is made of them.
 pub mod Arena
+pub mod DraftForm
+pub mod Finding
+pub mod Grown
+pub mod Left
 pub mod Machine
+pub mod Slots
