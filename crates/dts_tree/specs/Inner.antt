@@ -1,5 +1,6 @@
 pub mod Arena
 pub mod DraftForm
+pub mod DraftRules
 pub mod Finding
 pub mod Grown
 pub mod Left
