@@ -16,3 +16,11 @@ pub mod Gathering
 pub mod Ordering
 pub mod Measuring
 pub mod Sizing
+pub mod Apart
+pub mod WalkLaws
+pub mod Dropping
+pub mod Drafting
+pub mod Deciding
+pub mod GoodPlaces
+pub mod PathTexts
+pub mod DraftLaws

@@ -223,6 +223,9 @@ filter_twice : (k m : Place → Bool) (ps : List Place) → filter (λ q. k q &&
 filter_twice k m [] = refl
 filter_twice k m (p ∷ ps) = twice_by (k p) (m p) k m p ps refl refl (filter_twice k m ps)
 
+pub kid_positive : (spots : List Spot) (keep : List Bool) (node : Bool) (i j : ℕ) → Member j (below_in (kids_of spots keep node) i) → 0 < j
+kid_positive spots keep node i j m = (kid_known spots keep node i j m).1
+
 -- the kept children of a node
 pub children_are : (places : List Place) (a : ArenaData) (es : List EventData) (l : LabelsData) (us : List Deed) (keep : List Bool) (test : Place → Bool) → IsTied places a es l us
     → Keeps places a keep test → (i : ℕ) → is_gone a.gone i ≡ false

@@ -40,23 +40,31 @@ referred_or ds (Some d) = Err (at_path rule.V1 d.path)
 abbrev pub settled : List DraftData → Result TreeData Fault
 settled ds = referred_or ds (find dangles ds)
 
--- the same, and before it the rules that speak of all nodes
-abbrev pub labelled_or : Before → Option Place → Result TreeData Fault
-labelled_or b None = settled (drafts b)
+-- the drafts of the nodes that are left, or the first broken rule of those that speak of all nodes
+abbrev pub labelled_or : Before → Option Place → Result (List DraftData) Fault
+labelled_or b None = Ok (drafts b)
 labelled_or b (Some p) = Err (at_path rule.S4 (path_text p))
 
-abbrev pub sized_or : Before → Option Place → Result TreeData Fault
+abbrev pub sized_or : Before → Option Place → Result (List DraftData) Fault
 sized_or b None = labelled_or b (first_label_shared b)
 sized_or b (Some p) = Err (at_path rule.L8 (path_text p))
 
-abbrev pub counted_or : Before → Bool → Result TreeData Fault
+abbrev pub counted_or : Before → Bool → Result (List DraftData) Fault
 counted_or b true = Err (at_path rule.L7 (codes "/"))
 counted_or b false = sized_or b (first_large b)
 
-abbrev pub left_by : List (List ℕ) → Result Before Unnamed → Result TreeData Fault
+abbrev pub left_by : List (List ℕ) → Result Before Unnamed → Result (List DraftData) Fault
 left_by files (Ok b) = counted_or b (are_too_many (whole b))
 left_by files (Err u) = Err (unnamed_fault files u.source u.at)
 
+-- the nodes that the sources of these names and statements leave, as drafts
+abbrev pub drafted : List (List ℕ) → List (List StmtData) → Result (List DraftData) Fault
+drafted files scripts = left_by files (read_all 0 start scripts)
+
+abbrev pub settled_or : Result (List DraftData) Fault → Result TreeData Fault
+settled_or (Ok ds) = settled ds
+settled_or (Err f) = Err f
+
 -- what the sources of these names and statements leave
 abbrev pub outcome : List (List ℕ) → List (List StmtData) → Result TreeData Fault
-outcome files scripts = left_by files (read_all 0 start scripts)
+outcome files scripts = settled_or (drafted files scripts)

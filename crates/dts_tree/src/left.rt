@@ -1,9 +1,9 @@
 //! The nodes that are left, or the first rule that all nodes break.
 
-ghost use Rattle.std.specs.Prelude.{◌≡◌, [], IfOk};
+ghost use Rattle.std.specs.Prelude.{◌≡◌, [], IfOk, true};
 ghost use Rattle.dts_tree.specs.Inner.Grown.{ParentsRise, text_of, grown_of, kids_of, order_of, shared_from};
 ghost use Rattle.dts_tree.specs.Inner.Left.{keep_of, or_slash, prop_lists, whole_slots, left_of, shared_or, drafts_left};
-ghost use Rattle.dts_tree.specs.References.{Answers, IsFault};
+ghost use Rattle.dts_tree.specs.References.{AnswersAs, IsFault};
 ghost use Rattle.dts_tree.specs.Outcome.{at_path};
 
 use crate::draft::Draft;
@@ -22,7 +22,7 @@ use std::alloc::{AllocError, Global};
 /// The nodes that are left as drafts, or the first rule that all nodes break.
 pub(crate) fn left(alloc: Global, reader: &Reader<'_>) -> Result<Vec<Draft>, End>
     requires { ParentsRise reader.now.arena.spots }
-    ensures { Answers (left_of reader.now) result }
+    ensures { AnswersAs result (λ v. v.items) (left_of reader.now) }
 {
     let keep = alive_list(alloc, reader.arena.gone.as_slice())?;
     let whole = order(alloc, reader, keep.as_slice())?;
@@ -70,7 +70,7 @@ fn labelled(
     requires props { known.now.props.items ≡ prop_lists known.now.finder }
     requires keep { keep.now ≡ keep_of known.now.finder }
     requires whole { whole.now ≡ whole_slots known.now.finder }
-    ensures { Answers (shared_or known.now.finder (shared_from (grown_of known.now.finder) [] (whole_slots known.now.finder))) result }
+    ensures { AnswersAs result (λ v. v.items) (shared_or known.now.finder (shared_from (grown_of known.now.finder) [] (whole_slots known.now.finder))) }
 {
     match first_label_shared(alloc, &known.grown, whole)? {
         Some(slot) => Err(fault_at(alloc, Rule::S4, known.finder.spots(), slot)?),

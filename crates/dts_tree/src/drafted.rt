@@ -1,0 +1,28 @@
+//! The nodes that sources leave, as drafts.
+
+ghost use Rattle.std.specs.Prelude.{◌≡◌, IfOk, length};
+ghost use Rattle.dts_tree.specs.Inner.DraftRules.{AreDrafts};
+ghost use Rattle.dts_tree.specs.Outcome.{drafted};
+ghost use Rattle.dts_tree.specs.References.{AnswersAs};
+
+use crate::draft::Draft;
+use crate::left::left;
+use crate::sources::read;
+use dts_parse::Script;
+use edt_base::{End, Text};
+use std::alloc::Global;
+
+/// The nodes that the statements of sources leave, or the first broken rule of those that speak of
+/// statements and of all nodes.
+pub(crate) fn drafted_of(
+    alloc: Global,
+    files: &Vec<Text>,
+    scripts: &Vec<Script>,
+) -> Result<Vec<Draft>, End>
+    requires { length files.now.items ≡ length scripts.now.items }
+    ensures drafted { AnswersAs result (λ v. v.items) (drafted files.now.items scripts.now.items) }
+    ensures rules { IfOk result (λ v. AreDrafts v.items) }
+{
+    let reader = read(alloc, files, scripts)?;
+    left(alloc, &reader)
+}
