@@ -33,23 +33,19 @@ use Rattle.dts_tree.proofs.Sizing.{first_large_is, shared_is}
 use Rattle.dts_tree.proofs.Dropping.{whole_are, whole_alive}
 use Rattle.dts_tree.proofs.Drafting.{path_is, drafts_are}
 
+first_by : (b : Bool) (j i : ℕ) (is : List ℕ) (o : Option ℕ) → (o ≡ Some i → Member i is) → cond b (Some j) o ≡ Some i → Member i (j ∷ is)
+first_by true j i is o h e = inl (same_Some j i e)
+first_by false j i is o h e = inr (h e)
+
 found_in : (f : ℕ → Bool) (is : List ℕ) (i : ℕ) → find f is ≡ Some i → Member i is
 found_in f [] i h = absurd (none-some i h)
-found_in f (j ∷ is) i h = found_by (f j) h
-  where
-    found_by : (b : Bool) → cond b (Some j) (find f is) ≡ Some i → Member i (j ∷ is)
-    found_by true e = inl (same_Some j i e)
-    found_by false e = inr (found_in f is i e)
+found_in f (j ∷ is) i h = first_by (f j) j i is (find f is) (found_in f is i) h
 
 shared_in : (g : GrownData) (is : List ℕ) (seen : List (List ℕ)) (i : ℕ) → shared_from g seen is ≡ Some i → Member i is
 shared_in g [] seen i h = absurd (none-some i h)
-shared_in g (j ∷ is) seen i h = shared_by (any_seen seen (labels_at g j)) h
-  where
-    rest : List (List ℕ)
-    rest = fold (with_new bytes_eq) seen (labels_at g j)
-    shared_by : (b : Bool) → cond b (Some j) (shared_from g rest is) ≡ Some i → Member i (j ∷ is)
-    shared_by true e = inl (same_Some j i e)
-    shared_by false e = inr (shared_in g is rest i e)
+shared_in g (j ∷ is) seen i h =
+    let more : List (List ℕ) = fold (with_new bytes_eq) seen (labels_at g j) in
+    first_by (any_seen seen (labels_at g j)) j i is (shared_from g more is) (shared_in g is more i) h
 
 -- ---- what stands for what
 

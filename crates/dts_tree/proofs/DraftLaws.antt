@@ -131,11 +131,11 @@ abbrev Before : List DraftData → ℕ → Type 0
 Before ds n = (i k : ℕ) (d : DraftData) → i ≤ n → slice_get ds i ≡ Some d → d.parent ≡ Some k → k < i
 
 above_low : (ds : List DraftData) (n q i : ℕ) → Before ds n → i ≤ n → IsAbove ds q i → q ≤ i
-above_low ds n q i b l (itself i) = omega arith
-above_low ds n q i b l (further i p q d g e r) =
+above_low ds n q i b l (itself j) = omega arith
+above_low ds n q i b l (further j p r d g e over) =
     let up : p < i = b i p d l g e in
-    let low : q ≤ p = above_low ds n q p b (omega arith) r in
-    omega arith
+    let low : q ≤ p = above_low ds n q p b (omega (arith, l, up)) over in
+    omega (arith, low, up)
 
 before : (us : List Deed) (ps : List Place) → AreWalked us ps → (n : ℕ) → Before (drafts_of us ps) n
 before us ps a n zero k d l g e =

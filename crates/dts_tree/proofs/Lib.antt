@@ -24,3 +24,4 @@ pub mod Deciding
 pub mod GoodPlaces
 pub mod PathTexts
 pub mod DraftLaws
+pub mod Meeting

@@ -5,6 +5,7 @@
 mod arena;
 mod building;
 mod draft;
+mod drafted;
 mod faults;
 mod finder;
 mod finish;
