@@ -1,7 +1,7 @@
 -- What is left of the slots is what the definitions say is left, or the rule that they say is broken.
-use Rattle.std.proofs.Common.{◌≡◌, ◌∙◌, ◌<◌, ◌≤◌, ◌⊎◌, ◌||◌, ◌∷◌, [], ℕ, suc, Bool, true, false, cond, List, Option, Some, None, Result, Ok, Err, length, map, refl, sym, ap, subst, inl, inr, sum_by, ltb}
+use Rattle.std.proofs.Common.{◌≡◌, ◌∙◌, ◌<◌, ◌≤◌, ◌||◌, ◌∷◌, [], ℕ, suc, Bool, true, false, cond, List, Option, Some, None, Result, Ok, Err, length, map, refl, sym, ap, subst, inl, inr, sum_by, ltb}
 use Rattle.std.specs.Option.{option_map}
-use Rattle.std.specs.List.{list_any, find, fold}
+use Rattle.std.specs.List.{find, fold}
 use Rattle.std.specs.Str.{bytes_eq}
 use Rattle.std.proofs.lemmas.List.{length-map}
 use Rattle.std.proofs.lemmas.Option.{none-some, same_Some, slice_get_within, get_or_from_slice_get}
@@ -10,15 +10,13 @@ use Rattle.edt_base.specs.declared.fault.Rule.TheVariants as rule
 use Rattle.edt_base.specs.declared.fault.End.{End}
 use Rattle.edt_base.specs.declared.fault.End.TheVariants as ending
 use Rattle.dts_tree.specs.Places.{Place, path_text}
-use Rattle.dts_tree.specs.Deeds.{Deed}
 use Rattle.dts_tree.specs.Live.{with_new}
 use Rattle.dts_tree.specs.Reading.{Before, Unnamed, live}
 use Rattle.dts_tree.specs.References.{or_fault, unnamed_fault, Answers, AnswersAs}
 use Rattle.dts_tree.specs.Whole.{whole}
 use Rattle.dts_tree.specs.Limits.{are_too_many, is_large, first_shared, first_large, first_label_shared}
-use Rattle.dts_tree.specs.Drafts.{DraftData, drafts}
+use Rattle.dts_tree.specs.Drafts.{DraftData}
 use Rattle.dts_tree.specs.Outcome.{at_path, labelled_or, sized_or, counted_or, left_by}
-use Rattle.dts_tree.specs.Inner.Arena.{is_gone}
 use Rattle.dts_tree.specs.Inner.Machine.{ReaderData}
 use Rattle.dts_tree.specs.Inner.Grown.{GrownData, ParentsRise, grown_of, labels_at, any_seen, has_large, below_in, lens_of, slots_too_many, first_large_slot, shared_from}
 use Rattle.dts_tree.specs.Inner.Left.{whole_slots, prop_lists, text_path, shared_or, large_or, many_or, left_of}

@@ -1,10 +1,10 @@
 -- What the drafts of walked nodes keep.
-use Rattle.std.proofs.Common.{◌≡◌, ◌∙◌, ◌+◌, ◌%◌, ◌<◌, ◌≤◌, ◌++◌, ◌⊎◌, ◌∷◌, [], ℕ, zero, suc, Bool, true, false, cond, ◌&&◌, List, Option, Some, None, length, map, get_or, codes, refl, sym, ap, subst, inl, inr, arith, eqb}
+use Rattle.std.proofs.Common.{◌≡◌, ◌∙◌, ◌+◌, ◌%◌, ◌<◌, ◌≤◌, ◌∷◌, [], ℕ, zero, suc, true, false, List, Option, Some, None, length, map, get_or, refl, sym, ap, subst, inl, inr, arith}
 use Rattle.std.specs.Prelude.{slice_get, All, IfSome}
 use Rattle.std.specs.Option.{option_and_then}
-use Rattle.std.specs.List.{list_any, list_all, IsDistinct, AllByRecursion, position_from}
+use Rattle.std.specs.List.{IsDistinct, AllByRecursion}
 use Rattle.std.specs.Str.{bytes_eq}
-use Rattle.std.proofs.lemmas.Bool.{false≢true, true≢false, false_from_ne_true, eqb-true}
+use Rattle.std.proofs.lemmas.Bool.{false≢true, false_from_ne_true, eqb-true}
 use Rattle.std.proofs.lemmas.List.{length-map}
 use Rattle.std.proofs.lemmas.Option.{same_Some, none-some, slice_get_within, slice_get-get_or}
 use Rattle.std.proofs.lemmas.Iterator.Adapters.{position_from-zero}
@@ -19,13 +19,13 @@ use Rattle.dts_parse.specs.declared.script.RawCell.TheVariants as cell
 use Rattle.dts_parse.specs.declared.script.Target.{Target}
 use Rattle.dts_tree.specs.declared.spot.Step.{Step}
 use Rattle.dts_tree.specs.declared.spot.Step.TheVariants.{Child, Prop}
-use Rattle.dts_tree.specs.Places.{Place, place_eq, is_within, is_prop_of, name_of, step_name, below_text, path_text}
+use Rattle.dts_tree.specs.Places.{Place, place_eq, is_within, is_prop_of, name_of, step_name, path_text}
 use Rattle.dts_tree.specs.Deeds.{Deed}
 use Rattle.dts_tree.specs.Live.{spots, props, value, labels, node_of}
-use Rattle.dts_tree.specs.Drafts.{DraftPartData, DraftData, Ready, Mixed, PathTo, number_in, number_of, cell_draft, part_draft, prop_draft, parent_number, node_draft, drafts_of}
+use Rattle.dts_tree.specs.Drafts.{DraftPartData, DraftData, number_in, number_of, cell_draft, part_draft, prop_draft, parent_number, node_draft, drafts_of}
 use Rattle.dts_tree.specs.Inner.DraftRules.{AreDrafts, IsAbove, itself, further, path_below, has_draft_label, IsCellOf, IsPartOf}
 use Rattle.dts_tree.proofs.Lists.{Member, and_parts, all_at, any_find, member_of_map, member_of_filter}
-use Rattle.dts_tree.proofs.PlaceLaws.{same_place, same_bytes, within_self, within_cases}
+use Rattle.dts_tree.proofs.PlaceLaws.{same_place, same_bytes, within_cases}
 use Rattle.dts_tree.proofs.Apart.{Apart, apart_filter, shown_apart, spots_apart, member_at, index_of, same_index, number_at, number_is}
 use Rattle.dts_tree.proofs.WalkLaws.{IsNext}
 use Rattle.dts_tree.proofs.GoodPlaces.{is_good_place, AreGood, spot_good, value_good}

@@ -1,6 +1,6 @@
 -- The drafts of the slots that stay are those of their places.
-use Rattle.std.proofs.Common.{◌≡◌, ◌∙◌, ◌+◌, ◌-◌, ◌<◌, ◌≤◌, ◌++◌, ◌⊎◌, ◌∷◌, [], ℕ, zero, suc, Bool, true, false, cond, List, Option, Some, None, length, map, get_or, set, replicate, codes, refl, sym, ap, subst, inl, inr, arith, eqb}
-use Rattle.std.specs.Prelude.{slice_get, position}
+use Rattle.std.proofs.Common.{◌≡◌, ◌∙◌, ◌+◌, ◌<◌, ◌≤◌, ◌++◌, ◌∷◌, [], ℕ, zero, suc, true, false, cond, List, Option, Some, None, length, map, get_or, set, replicate, codes, refl, sym, ap, subst, inl, inr, arith, eqb}
+use Rattle.std.specs.Prelude.{slice_get}
 use Rattle.std.specs.Option.{option_map_or, option_and_then}
 use Rattle.std.specs.List.{position_from}
 use Rattle.std.proofs.lemmas.Bool.{cases_eq, eq-eqb, ne_eqb}
@@ -11,22 +11,21 @@ use Rattle.dts_parse.specs.StmtData.{PartData, Plain, Cells, Path}
 use Rattle.dts_parse.specs.declared.script.RawCell.{RawCell}
 use Rattle.dts_parse.specs.declared.script.RawCell.TheVariants as cell
 use Rattle.dts_parse.specs.declared.script.Target.{Target}
-use Rattle.dts_tree.specs.declared.draft.DraftCell.{DraftCell}
 use Rattle.dts_tree.specs.declared.draft.DraftCell.TheVariants as draft
-use Rattle.dts_tree.specs.declared.spot.Step.TheVariants.{Child, Prop}
+use Rattle.dts_tree.specs.declared.spot.Step.TheVariants.{Child}
 use Rattle.dts_tree.specs.declared.spot.Spot.{Spot}
 use Rattle.dts_tree.specs.Places.{Place, place_eq, name_of, step_name, below_text, path_text}
 use Rattle.dts_tree.specs.Deeds.{Deed}
 use Rattle.dts_tree.specs.Live.{value, props, labels, node_of}
 use Rattle.dts_tree.specs.Reading.{Before, live}
-use Rattle.dts_tree.specs.Whole.{kept, stays, kept_children}
-use Rattle.dts_tree.specs.Drafts.{DraftPartData, DraftData, Ready, Mixed, PathTo, number_in, number_of, cell_draft, part_draft, prop_draft, parent_number, node_draft, drafts_of, drafts}
+use Rattle.dts_tree.specs.Whole.{kept, stays}
+use Rattle.dts_tree.specs.Drafts.{DraftPartData, DraftData, Mixed, PathTo, number_in, number_of, cell_draft, part_draft, prop_draft, parent_number, node_draft, drafts_of, drafts}
 use Rattle.dts_tree.specs.Inner.Arena.{ArenaData, is_gone, spot}
 use Rattle.dts_tree.specs.Inner.Machine.{ReaderData, named_slot}
-use Rattle.dts_tree.specs.Inner.Grown.{grown_of, value_at, labels_at, below_in, alive_list, kids_of, slot_name, slot_parent, with_slash, slot_text, text_of}
-use Rattle.dts_tree.specs.Inner.Left.{placed_from, places_of, placed_at, slot_number, slot_cell, slot_part, slot_prop, or_slash, node_name, node_parent, slot_draft, slot_drafts, prop_lists, staying, kept_slots, drafts_left, text_path}
+use Rattle.dts_tree.specs.Inner.Grown.{grown_of, value_at, labels_at, below_in, alive_list, slot_name, slot_parent, with_slash, slot_text, text_of}
+use Rattle.dts_tree.specs.Inner.Left.{placed_from, places_of, placed_at, slot_number, slot_cell, slot_part, slot_prop, or_slash, node_name, node_parent, slot_draft, prop_lists, staying, kept_slots, drafts_left}
 use Rattle.dts_tree.proofs.Lists.{Member}
-use Rattle.dts_tree.proofs.Shape.{IsShaped, IsSound, place_at, step_at, parent_at, spot_at, there_within}
+use Rattle.dts_tree.proofs.Shape.{IsShaped, IsSound, place_at, parent_at, spot_at, there_within}
 use Rattle.dts_tree.proofs.Tying.{IsTied}
 use Rattle.dts_tree.proofs.Carrying.{Names, named_is}
 use Rattle.dts_tree.proofs.Gathering.{same_slot, value_is, labels_are}

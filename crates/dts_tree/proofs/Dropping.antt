@@ -1,5 +1,5 @@
 -- Which nodes stay, by slots and by places.
-use Rattle.std.proofs.Common.{◌≡◌, ◌∙◌, ◌+◌, ◌-◌, ◌<◌, ◌≤◌, ◌++◌, ◌⊎◌, ◌∷◌, [], ℕ, zero, suc, Bool, true, false, not, cond, ◌&&◌, ◌||◌, List, Option, Some, None, length, map, get_or, set, replicate, refl, sym, ap, subst, inl, inr, arith, eqb}
+use Rattle.std.proofs.Common.{◌≡◌, ◌∙◌, ◌+◌, ◌<◌, ◌≤◌, ◌++◌, ◌∷◌, [], ℕ, zero, suc, Bool, true, false, not, ◌&&◌, ◌||◌, List, Option, Some, None, length, map, get_or, set, replicate, refl, sym, ap, subst, inl, inr, arith, eqb}
 use Rattle.std.specs.Option.{option_map_or}
 use Rattle.std.specs.List.{list_any, filter_map, flat_map, fold, range_with_len, cons_option}
 use Rattle.std.proofs.lemmas.Bool.{cases_eq, cases_lt, eq-eqb, ne_eqb}
@@ -10,12 +10,12 @@ use Rattle.dts_parse.specs.StmtData.{PartData}
 use Rattle.dts_parse.specs.declared.script.Target.{Target}
 use Rattle.dts_tree.specs.Places.{Place, place_eq}
 use Rattle.dts_tree.specs.Deeds.{Deed}
-use Rattle.dts_tree.specs.Live.{value, props, node_of, is_marked}
+use Rattle.dts_tree.specs.Live.{value, node_of, is_marked}
 use Rattle.dts_tree.specs.Reading.{Before, live}
 use Rattle.dts_tree.specs.Whole.{part_targets, node_targets, wanted, stays, always, whole}
 use Rattle.dts_tree.specs.Inner.Arena.{ArenaData, is_gone, is_alive}
 use Rattle.dts_tree.specs.Inner.Machine.{ReaderData, named_slot}
-use Rattle.dts_tree.specs.Inner.Grown.{GrownData, grown_of, value_at, below_in, alive_list, wants, wanted_parts, wanted_by, wanted_from, stays_at, stays_list}
+use Rattle.dts_tree.specs.Inner.Grown.{GrownData, grown_of, value_at, below_in, alive_list, wants, wanted_parts, wanted_by, wanted_from, stays_at}
 use Rattle.dts_tree.specs.Inner.Left.{keep_of, whole_slots, prop_lists, wanted_slots, staying}
 use Rattle.dts_tree.proofs.Lists.{Member}
 use Rattle.dts_tree.proofs.Shape.{IsShaped, IsSound, place_at, there_within}

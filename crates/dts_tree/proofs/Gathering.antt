@@ -1,15 +1,15 @@
 -- What each slot has is what the definitions say of its place.
-use Rattle.std.proofs.Common.{◌≡◌, ◌∙◌, ◌+◌, ◌-◌, ◌<◌, ◌≤◌, ◌++◌, ◌⊎◌, ◌∷◌, [], ℕ, zero, suc, Bool, true, false, not, cond, ◌&&◌, ◌||◌, List, Option, Some, None, length, map, get_or, set, replicate, refl, sym, ap, subst, inl, inr, arith, eqb}
+use Rattle.std.proofs.Common.{◌≡◌, ◌∙◌, ◌<◌, ◌∷◌, [], ℕ, Bool, true, false, not, cond, ◌&&◌, ◌||◌, List, Option, Some, None, length, map, get_or, set, refl, sym, ap, subst, inl, inr, eqb}
 use Rattle.std.specs.Prelude.{unwrap_or}
-use Rattle.std.specs.List.{list_any, list_all, filter, filter_map, fold, range_with_len, cons_option}
+use Rattle.std.specs.List.{list_any, filter, filter_map, fold, cons_option}
 use Rattle.std.specs.Str.{bytes_eq}
-use Rattle.std.proofs.lemmas.Bool.{false≢true, true≢false, cases_eq, cases_Bool, eqb-true, eq-eqb, ne_eqb, false_from_ne_true, not_from_false}
+use Rattle.std.proofs.lemmas.Bool.{cases_eq, eq-eqb, ne_eqb, false_from_ne_true}
 use Rattle.std.proofs.lemmas.List.{get_or-set_same, get_or-set_other, length-set, length-replicate, get_or-replicate}
 use Rattle.dts_parse.specs.StmtData.{ActData, PartData, Open, Close, Label, Assign, DelProp, DelNode, Omit}
 use Rattle.dts_tree.specs.Places.{Place, place_eq}
-use Rattle.dts_tree.specs.Deeds.{Deed, deed}
+use Rattle.dts_tree.specs.Deeds.{Deed}
 use Rattle.dts_tree.specs.Live.{with_new, firsts, last_of, value, value_in, labels, label_in, is_marked, marks}
-use Rattle.dts_tree.specs.Inner.Arena.{ArenaData, is_gone, is_alive}
+use Rattle.dts_tree.specs.Inner.Arena.{ArenaData, is_gone}
 use Rattle.dts_tree.specs.Inner.Machine.{EventData, LabelsData}
 use Rattle.dts_tree.specs.Inner.Grown.{GrownData, no_grown, with_act, taken, grown_from, value_at, labels_at}
 use Rattle.dts_tree.proofs.Lists.{Member}

@@ -10,12 +10,11 @@ use Rattle.dts_parse.specs.StmtData.{ActData, PartData, StmtData, Open, Close, L
 use Rattle.dts_parse.specs.Nested.{is_good_part, fits_place, nest, nested, IsNested}
 use Rattle.dts_parse.specs.declared.script.Target.{Target}
 use Rattle.dts_parse.specs.declared.script.Target.TheVariants as target
-use Rattle.dts_tree.specs.declared.spot.Step.{Step}
 use Rattle.dts_tree.specs.declared.spot.Step.TheVariants.{Child, Prop}
 use Rattle.dts_tree.specs.Places.{Place, place_eq, place_of}
 use Rattle.dts_tree.specs.Deeds.{Deed, deed, deletes, covers, uncovered}
 use Rattle.dts_tree.specs.Live.{with_new, last_of, begins, begun, spots, is_there, value, value_in, labelled, labelled_in, node_of}
-use Rattle.dts_tree.specs.Reading.{Before, Unnamed, live, here, closed, done, done_if_there, done_at, opening, naming, after, read_on, read_all, start}
+use Rattle.dts_tree.specs.Reading.{Before, Unnamed, live, here, done, done_if_there, done_at, opening, naming, after, read_on, read_all, start}
 use Rattle.dts_tree.proofs.Lists.{Member, all_at, all_from, all_append, and_parts, and_both, any_find, member_cases}
 use Rattle.dts_tree.proofs.PlaceLaws.{same_place}
 use Rattle.dts_tree.proofs.Apart.{member_at}

@@ -2,17 +2,17 @@
 use Rattle.std.proofs.Common.{◌≡◌, ◌∙◌, ◌+◌, ◌-◌, ◌^◌, ◌<◌, ◌≤◌, ◌++◌, ◌⊎◌, ◌∷◌, [], ℕ, zero, suc, Bool, true, false, not, cond, List, Option, Some, None, length, map, get_or, min, max, codes, refl, sym, ap, subst, inl, inr, arith, eqb, ltb, sum_by}
 use Rattle.std.specs.Prelude.{slice_get}
 use Rattle.std.specs.Option.{option_map_or}
-use Rattle.std.proofs.lemmas.Bool.{cases_eq, cases_lt, ltb-true, ltb-false, lt-ltb, le-ltb, eqb-true, eq-eqb, ne_eqb}
+use Rattle.std.proofs.lemmas.Bool.{cases_eq, cases_lt, lt-ltb, le-ltb}
 use Rattle.std.proofs.lemmas.List.{get_or_append_left, get_or_push, get_or_at, length-append, length_push, append_assoc, append-nil}
 use Rattle.std.proofs.lemmas.Option.{slice_get-get_or, slice_get_past}
 use Rattle.std.proofs.lemmas.List.Sums.{sum_by-append}
-use Rattle.dts_tree.specs.declared.spot.Step.TheVariants.{Child, Prop}
+use Rattle.dts_tree.specs.declared.spot.Step.TheVariants.{Child}
 use Rattle.dts_tree.specs.declared.spot.Spot.{Spot}
 use Rattle.dts_tree.specs.Places.{Place, below_text, path_text, step_name}
 use Rattle.dts_tree.specs.Inner.Arena.{spot}
 use Rattle.dts_tree.specs.Inner.Grown.{most, next_len, lens_from, lens_of, len_at}
 use Rattle.dts_tree.proofs.Lists.{Member}
-use Rattle.dts_tree.proofs.Shape.{IsShaped, place_at, parent_at, step_at, spot_at}
+use Rattle.dts_tree.proofs.Shape.{IsShaped, place_at, parent_at, spot_at}
 
 min_len : (m a b : ℕ) → min (min (min a m + b) m + 1) m ≡ min (a + 1 + b) m
 min_len m a b = omega arith

@@ -1,21 +1,20 @@
 -- What sources leave keeps what drafts keep.
-use Rattle.std.proofs.Common.{◌≡◌, ◌∙◌, ◌+◌, ◌<◌, ◌≤◌, ◌++◌, ◌⊎◌, ◌||◌, ◌∷◌, [], ℕ, zero, suc, Bool, true, false, cond, List, Option, Some, None, Result, Ok, Err, length, refl, sym, ap, subst, inl, inr, arith, ltb}
+use Rattle.std.proofs.Common.{◌≡◌, ◌∙◌, ◌+◌, ◌≤◌, ◌++◌, ◌||◌, ◌∷◌, [], ℕ, zero, suc, Bool, true, false, cond, List, Option, Some, None, Result, Ok, Err, length, refl, sym, subst, inl, inr, arith, ltb}
 use Rattle.std.specs.Prelude.{slice_get}
 use Rattle.std.specs.List.{list_any, flat_map, filter}
 use Rattle.std.specs.Str.{bytes_eq}
-use Rattle.std.proofs.lemmas.Bool.{false≢true, true≢false, ltb-false}
+use Rattle.std.proofs.lemmas.Bool.{true≢false, ltb-false}
 use Rattle.std.proofs.lemmas.List.{length-append}
-use Rattle.std.proofs.lemmas.Option.{same_Some, none-some}
-use Rattle.edt_base.specs.declared.fault.Fault.{Fault}
+use Rattle.std.proofs.lemmas.Option.{none-some}
 use Rattle.dts_parse.specs.StmtData.{StmtData}
 use Rattle.dts_parse.specs.Nested.{IsNested}
 use Rattle.dts_tree.specs.declared.spot.Step.{Step}
-use Rattle.dts_tree.specs.declared.spot.Step.TheVariants.{Child, Prop}
-use Rattle.dts_tree.specs.Places.{Place, is_child_of, path_text}
+use Rattle.dts_tree.specs.declared.spot.Step.TheVariants.{Child}
+use Rattle.dts_tree.specs.Places.{Place}
 use Rattle.dts_tree.specs.Deeds.{Deed}
 use Rattle.dts_tree.specs.Live.{spots, labels, children}
 use Rattle.dts_tree.specs.Reading.{Before, Unnamed, live, read_all, start}
-use Rattle.dts_tree.specs.Whole.{walk, kept_children, always, whole, kept, stays}
+use Rattle.dts_tree.specs.Whole.{kept_children, always, whole, kept, stays}
 use Rattle.dts_tree.specs.Limits.{are_too_many, first_shared, first_large, first_label_shared}
 use Rattle.dts_tree.specs.Drafts.{DraftData, drafts}
 use Rattle.dts_tree.specs.Outcome.{labelled_or, sized_or, counted_or, left_by, drafted}

@@ -1,26 +1,25 @@
 -- What stands below each slot, and the order of the slots, are those of their places.
-use Rattle.std.proofs.Common.{◌≡◌, ◌∙◌, ◌+◌, ◌-◌, ◌<◌, ◌≤◌, ◌++◌, ◌⊎◌, ◌∷◌, [], ℕ, zero, suc, Bool, true, false, not, cond, ◌&&◌, ◌||◌, List, Option, Some, None, length, map, get_or, set, replicate, refl, sym, ap, subst, inl, inr, arith, eqb, ltb}
-use Rattle.std.specs.List.{list_any, list_all, filter, flat_map, range_with_len}
-use Rattle.std.proofs.lemmas.Bool.{false≢true, true≢false, cases_eq, cases_lt, cases_Bool, eqb-true, eq-eqb, ne_eqb, lt-ltb, ltb-true, not_from_false, not_from_true, and_left, and_right}
-use Rattle.std.proofs.lemmas.List.{get_or-set_same, get_or-set_other, get_or_past, get_or_at, get_or-map, length-set, length-replicate, get_or-replicate, append_assoc, append-nil, length-map, length-append, map-append}
+use Rattle.std.proofs.Common.{◌≡◌, ◌∙◌, ◌+◌, ◌<◌, ◌≤◌, ◌++◌, ◌∷◌, [], ℕ, zero, suc, Bool, true, false, not, cond, ◌&&◌, List, length, map, get_or, set, replicate, refl, sym, ap, subst, inl, inr, arith, eqb, ltb}
+use Rattle.std.specs.List.{filter, flat_map, range_with_len}
+use Rattle.std.proofs.lemmas.Bool.{cases_eq, cases_lt, eqb-true, eq-eqb, ne_eqb, lt-ltb, ltb-true}
+use Rattle.std.proofs.lemmas.List.{get_or-set_same, get_or-set_other, get_or_past, get_or_at, length-set, length-replicate, get_or-replicate, append_assoc, append-nil, length-append, map-append}
 use Rattle.dts_tree.specs.declared.spot.Step.{Step}
 use Rattle.dts_tree.specs.declared.spot.Step.TheVariants.{Child, Prop}
 use Rattle.dts_tree.specs.declared.spot.Spot.{Spot}
 use Rattle.dts_tree.specs.Places.{Place, place_eq, is_child_of, is_prop_of}
 use Rattle.dts_tree.specs.Deeds.{Deed}
-use Rattle.dts_tree.specs.Live.{spots, children, props}
+use Rattle.dts_tree.specs.Live.{spots, props}
 use Rattle.dts_tree.specs.Reading.{Before, live}
 use Rattle.dts_tree.specs.Whole.{walk, kept_children, preorder}
 use Rattle.dts_tree.specs.Inner.Arena.{ArenaData, is_gone, is_alive, spot}
 use Rattle.dts_tree.specs.Inner.Slots.{is_node}
 use Rattle.dts_tree.specs.Inner.Machine.{EventData, LabelsData, ReaderData}
 use Rattle.dts_tree.specs.Inner.Grown.{is_kid, with_kid, kids_from, kids_of, alive_list, below_in, AreRising, order_of}
-use Rattle.dts_tree.proofs.Lists.{Member, member_of_filter, member_in_filter, member_of_range, member_cases, member_of_map, filter_shown, filter_alike, and_parts, and_both, all_from}
-use Rattle.dts_tree.proofs.PlaceLaws.{same_place, place_is}
-use Rattle.dts_tree.proofs.Shape.{IsShaped, IsSound, place_at, parent_at, step_at, spot_at, there_within, apart}
+use Rattle.dts_tree.proofs.Lists.{Member, member_of_filter, member_of_range, member_cases, filter_shown, and_parts, all_from}
+use Rattle.dts_tree.proofs.Shape.{IsShaped, IsSound, place_at, parent_at, step_at, spot_at, there_within}
 use Rattle.dts_tree.proofs.Gathering.{same_slot}
-use Rattle.dts_tree.proofs.Tying.{IsTied, slots_of, alive_false}
-use Rattle.dts_tree.proofs.Walking.{walk_at, walk_enough, flat_map_same}
+use Rattle.dts_tree.proofs.Tying.{IsTied, alive_false}
+use Rattle.dts_tree.proofs.Walking.{walk_enough}
 
 -- ---- the lists of slots below slots
 

@@ -1,11 +1,10 @@
 -- The texts of paths tell nodes apart.
-use Rattle.std.proofs.Common.{◌≡◌, ◌∙◌, ◌++◌, ◌⊎◌, ◌∷◌, [], ℕ, zero, suc, Bool, true, false, not, cond, ◌&&◌, List, Option, length, codes, refl, sym, ap, subst, inl, inr, eqb, take, drop, append_assoc}
+use Rattle.std.proofs.Common.{◌≡◌, ◌∙◌, ◌++◌, ◌∷◌, [], ℕ, zero, suc, Bool, true, false, not, cond, List, refl, sym, ap, subst, eqb, take, drop, append_assoc}
 use Rattle.std.specs.List.{list_all, fold, slice_split, onto_first, prefix_len}
 use Rattle.std.proofs.lemmas.Bool.{false≢true}
 use Rattle.std.proofs.lemmas.List.Sums.{fold-append}
 use Rattle.edt_base.specs.SourceNames.{is_node_name, is_node_word, is_unit, is_no_at}
 use Rattle.edt_base.specs.SourceBytes.{is_node_byte}
-use Rattle.dts_tree.specs.declared.spot.Step.{Step}
 use Rattle.dts_tree.specs.declared.spot.Step.TheVariants.{Child, Prop}
 use Rattle.dts_tree.specs.Places.{Place, one_below, place_of, below_text, path_text}
 use Rattle.dts_tree.proofs.Lists.{and_parts, and_both}

@@ -1,5 +1,5 @@
 -- The rules of all nodes by slots are those by places.
-use Rattle.std.proofs.Common.{◌≡◌, ◌∙◌, ◌+◌, ◌-◌, ◌*◌, ◌^◌, ◌<◌, ◌≤◌, ◌++◌, ◌⊎◌, ◌∷◌, [], ℕ, zero, suc, Bool, true, false, not, cond, ◌||◌, List, Option, Some, None, length, map, get_or, min, max, refl, sym, ap, subst, inl, inr, arith, eqb, ltb, sum_by, find, lit<}
+use Rattle.std.proofs.Common.{◌≡◌, ◌∙◌, ◌+◌, ◌*◌, ◌<◌, ◌++◌, ◌∷◌, [], ℕ, Bool, true, false, cond, ◌||◌, List, Option, Some, None, length, map, min, refl, sym, ap, subst, inl, inr, arith, ltb, find, lit<}
 use Rattle.std.specs.Option.{option_map, option_map_or}
 use Rattle.std.specs.List.{list_any, fold}
 use Rattle.std.specs.Str.{bytes_eq}
@@ -7,21 +7,20 @@ use Rattle.std.proofs.lemmas.List.Sums.{sum_by-cons}
 use Rattle.std.proofs.lemmas.List.Folds.{list_any-append}
 use Rattle.std.proofs.lemmas.Bool.{cases_Bool, or_right}
 use Rattle.dts_parse.specs.StmtData.{PartData, Plain, Cells, Path}
-use Rattle.dts_parse.specs.declared.script.Target.{Target}
 use Rattle.dts_tree.specs.Places.{Place, path_text}
 use Rattle.dts_tree.specs.Deeds.{Deed}
-use Rattle.dts_tree.specs.Live.{with_new, props, value, labels, node_of}
+use Rattle.dts_tree.specs.Live.{with_new, value, labels, node_of}
 use Rattle.dts_tree.specs.Limits.{part_size, value_size, is_large, first_shared}
-use Rattle.dts_tree.specs.Inner.Arena.{ArenaData, is_gone}
-use Rattle.dts_tree.specs.Inner.Machine.{EventData, LabelsData, ReaderData, named_slot}
-use Rattle.dts_tree.specs.Inner.Grown.{GrownData, grown_of, most, len_at, lens_of, path_size, slot_part_size, size_from, value_at, labels_at, has_large, first_large_slot, any_seen, shared_from, kids_of, alive_list, below_in}
-use Rattle.dts_tree.proofs.Lists.{Member, any_find, any_give}
-use Rattle.dts_tree.proofs.PlaceLaws.{same_bytes, bytes_self}
+use Rattle.dts_tree.specs.Inner.Arena.{is_gone}
+use Rattle.dts_tree.specs.Inner.Machine.{ReaderData, named_slot}
+use Rattle.dts_tree.specs.Inner.Grown.{grown_of, most, lens_of, path_size, slot_part_size, size_from, value_at, labels_at, has_large, any_seen, shared_from, kids_of, alive_list, below_in}
+use Rattle.dts_tree.proofs.Lists.{Member}
+use Rattle.dts_tree.proofs.PlaceLaws.{same_bytes}
 use Rattle.dts_tree.proofs.Shape.{IsShaped, IsSound, place_at, there_within}
 use Rattle.dts_tree.proofs.Tying.{IsTied}
 use Rattle.dts_tree.proofs.Carrying.{Names, named_is}
 use Rattle.dts_tree.proofs.Gathering.{value_is, labels_are}
-use Rattle.dts_tree.proofs.Ordering.{Keeps, props_are, kid_alive, alive_keeps}
+use Rattle.dts_tree.proofs.Ordering.{props_are, kid_alive, alive_keeps}
 use Rattle.dts_tree.proofs.Measuring.{len_is, above_min}
 
 -- ---- the size of a value

@@ -1,9 +1,8 @@
 -- The walk over nodes: it comes to each once, to none without its parent, and from each to what stands in it or beside it or above.
-use Rattle.std.proofs.Common.{◌≡◌, ◌∙◌, ◌+◌, ◌<◌, ◌≤◌, ◌++◌, ◌⊎◌, ◌∷◌, [], ℕ, zero, suc, Bool, true, false, List, Option, Some, None, length, refl, sym, ap, subst, inl, inr, arith}
+use Rattle.std.proofs.Common.{◌≡◌, ◌∙◌, ◌≤◌, ◌++◌, ◌⊎◌, ◌∷◌, [], ℕ, zero, suc, Bool, true, List, Some, length, refl, sym, ap, subst, inl, inr, arith}
 use Rattle.std.specs.Prelude.{slice_get}
-use Rattle.std.specs.List.{filter, flat_map}
+use Rattle.std.specs.List.{flat_map}
 use Rattle.std.proofs.lemmas.Bool.{false≢true}
-use Rattle.std.proofs.lemmas.List.{length-append}
 use Rattle.std.proofs.lemmas.Option.{same_Some, none-some}
 use Rattle.dts_tree.specs.declared.spot.Step.{Step}
 use Rattle.dts_tree.specs.declared.spot.Step.TheVariants.{Child, Prop}
@@ -12,7 +11,7 @@ use Rattle.dts_tree.specs.Deeds.{Deed}
 use Rattle.dts_tree.specs.Live.{spots, children}
 use Rattle.dts_tree.specs.Whole.{walk, kept_children, always}
 use Rattle.dts_tree.proofs.Lists.{Member, member_of_filter, member_in_filter}
-use Rattle.dts_tree.proofs.PlaceLaws.{same_place, place_is, within_self, within_more, within_cases, within_longer}
+use Rattle.dts_tree.proofs.PlaceLaws.{same_place, within_self, within_more, within_cases, within_longer}
 use Rattle.dts_tree.proofs.Apart.{Apart, apart_filter, apart_flat, flat_member, member_flat, spots_apart}
 
 abbrev pub walk_from : ℕ → List Deed → (Place → Bool) → Place → List Place

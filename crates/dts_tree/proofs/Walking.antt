@@ -1,11 +1,11 @@
 -- The walk over lists of slots below slots.
-use Rattle.std.proofs.Common.{◌≡◌, ◌∙◌, ◌+◌, ◌-◌, ◌<◌, ◌≤◌, ◌++◌, ◌⊎◌, ◌∷◌, [], ℕ, zero, suc, Bool, true, false, List, length, reverse, refl, sym, ap, subst, inl, inr, arith, ltb}
+use Rattle.std.proofs.Common.{◌≡◌, ◌∙◌, ◌+◌, ◌<◌, ◌≤◌, ◌++◌, ◌∷◌, [], ℕ, zero, suc, Bool, true, List, length, reverse, refl, sym, ap, subst, inl, inr, arith, ltb}
 use Rattle.std.specs.List.{flat_map, list_all}
-use Rattle.std.proofs.lemmas.Bool.{ltb-true, lt-ltb}
-use Rattle.std.proofs.lemmas.List.{append_assoc, reverse-append, reverse-reverse, length-append}
+use Rattle.std.proofs.lemmas.Bool.{ltb-true}
+use Rattle.std.proofs.lemmas.List.{append_assoc, reverse-append, reverse-reverse}
 use Rattle.dts_tree.specs.Whole.{walk}
 use Rattle.dts_tree.specs.Inner.Grown.{below_in, AreRising, order_of}
-use Rattle.dts_tree.proofs.Lists.{Member, all_at, all_from, all_append, and_parts, and_both, member_right, member_left, member_cases}
+use Rattle.dts_tree.proofs.Lists.{Member, all_at, all_from, all_append, and_parts, and_both, member_right, member_left}
 
 abbrev pub walk_at : List (List ℕ) → ℕ → List ℕ
 walk_at lists i = walk (length lists) (below_in lists) i

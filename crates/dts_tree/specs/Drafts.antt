@@ -1,5 +1,5 @@
 -- The nodes of the final tree as drafts: references in values are read, and values aren't bytes yet.
-use Rattle.std.specs.Prelude.{ℕ, List, [], ◌∷◌, Option, Some, None, length, map, position}
+use Rattle.std.specs.Prelude.{ℕ, List, [], ◌∷◌, Option, None, map, position}
 use Rattle.std.specs.Option.{option_and_then}
 use Rattle.edt_base.specs.declared.node.Part.{Part}
 use Rattle.dts_parse.specs.StmtData.{PartData, Plain, Cells, Path}

@@ -1,8 +1,6 @@
 -- What sources leave: the tree, or the first broken rule with its place.
-use Rattle.std.specs.Prelude.{◌≡◌, ℕ, Bool, true, false, List, [], ◌∷◌, Option, Some, None, Result, Ok, Err, codes, find, slice_index_or, ⊤, if◌then◌else◌}
+use Rattle.std.specs.Prelude.{ℕ, Bool, true, false, List, [], Option, Some, None, Result, Ok, Err, codes, find}
 use Rattle.edt_base.specs.TreeData.{TreeData}
-use Rattle.edt_base.specs.declared.fault.End.{End}
-use Rattle.edt_base.specs.declared.fault.End.TheVariants as ending
 use Rattle.edt_base.specs.declared.fault.Fault.{Fault}
 use Rattle.edt_base.specs.declared.fault.Place.TheVariants as fault
 use Rattle.edt_base.specs.declared.fault.Rule.{Rule}

@@ -1,5 +1,5 @@
 -- The nodes that are there in preorder, all of them or those that are kept.
-use Rattle.std.specs.Prelude.{ℕ, zero, suc, Bool, true, false, ◌&&◌, not, List, [], ◌∷◌, length, filter}
+use Rattle.std.specs.Prelude.{ℕ, zero, suc, Bool, true, ◌&&◌, not, List, [], ◌∷◌, length, filter}
 use Rattle.std.specs.List.{list_any, filter_map, flat_map}
 use Rattle.dts_parse.specs.StmtData.{PartData, Plain, Cells, Path}
 use Rattle.dts_parse.specs.declared.script.RawCell.{RawCell}

@@ -1,16 +1,14 @@
 -- What the code gathers once all statements are carried out. No part of what is promised.
 use Rattle.std.specs.Prelude.{◌≡◌, ◌<◌, ℕ, zero, suc, ◌+◌, ◌*◌, ◌-◌, ◌^◌, Bool, true, false, ◌&&◌, ◌||◌, not, List, [], ◌∷◌, ◌++◌, Option, Some, None, length, map, min, max, sum_by, find, fold, nat_eq, nat_lt, replicate, slice_get, slice_index_or, slice_set, codes, if◌then◌else◌}
-use Rattle.std.specs.Option.{option_map_or, option_and_then}
-use Rattle.std.specs.List.{list_any, list_all, flat_map, range_with_len}
+use Rattle.std.specs.Option.{option_map_or}
+use Rattle.std.specs.List.{list_any, list_all, range_with_len}
 use Rattle.std.specs.Str.{bytes_eq}
 use Rattle.dts_parse.specs.StmtData.{ActData, PartData, Plain, Cells, Path, Open, Close, Label, Assign, DelProp, DelNode, Omit}
 use Rattle.dts_parse.specs.declared.script.Target.{Target}
-use Rattle.dts_tree.specs.declared.spot.Step.{Step}
-use Rattle.dts_tree.specs.declared.spot.Step.TheVariants.{Child, Prop}
 use Rattle.dts_tree.specs.declared.spot.Spot.{Spot}
 use Rattle.dts_tree.specs.Places.{step_name}
 use Rattle.dts_tree.specs.Live.{with_new}
-use Rattle.dts_tree.specs.Inner.Arena.{ArenaData, is_gone, is_alive, pushed}
+use Rattle.dts_tree.specs.Inner.Arena.{is_gone, pushed}
 use Rattle.dts_tree.specs.Inner.Slots.{is_node}
 use Rattle.dts_tree.specs.Whole.{walk, part_targets}
 use Rattle.dts_tree.specs.Inner.Machine.{EventData, ReaderData, named_slot}

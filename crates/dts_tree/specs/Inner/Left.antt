@@ -1,6 +1,6 @@
 -- The nodes that are left as drafts, or the first rule that all nodes break, from what the code gathered. No part of what is promised.
-use Rattle.std.specs.Prelude.{◌≡◌, ◌<◌, ℕ, ◌+◌, Bool, true, false, List, [], ◌∷◌, Option, Some, None, Result, Ok, Err, length, map, replicate, codes, nat_eq, slice_get, slice_index_or, slice_set, if◌then◌else◌}
-use Rattle.std.specs.Option.{option_and_then, option_map_or}
+use Rattle.std.specs.Prelude.{ℕ, ◌+◌, Bool, true, false, List, [], ◌∷◌, Option, Some, None, Result, Ok, Err, length, map, replicate, codes, nat_eq, slice_index_or, slice_set, if◌then◌else◌}
+use Rattle.std.specs.Option.{option_and_then}
 use Rattle.edt_base.specs.declared.fault.Fault.{Fault}
 use Rattle.edt_base.specs.declared.fault.Rule.TheVariants as rule
 use Rattle.dts_parse.specs.StmtData.{PartData, Plain, Cells, Path}
@@ -10,7 +10,6 @@ use Rattle.dts_parse.specs.declared.script.Target.{Target}
 use Rattle.dts_tree.specs.declared.draft.DraftCell.{DraftCell}
 use Rattle.dts_tree.specs.declared.draft.DraftCell.TheVariants as draft
 use Rattle.dts_tree.specs.declared.spot.Spot.{Spot}
-use Rattle.dts_tree.specs.Places.{step_name}
 use Rattle.dts_tree.specs.Inner.Machine.{ReaderData, named_slot}
 use Rattle.dts_tree.specs.Inner.Grown.{GrownData, grown_of, value_at, labels_at, kids_of, alive_list, below_in, order_of, lens_of, slot_name, slot_parent, text_of, slots_too_many, first_large_slot, shared_from, wanted_from, stays_list}
 use Rattle.dts_tree.specs.Drafts.{DraftPartData, DraftData, Ready, Mixed, PathTo}
