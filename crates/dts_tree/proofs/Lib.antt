@@ -25,3 +25,4 @@ pub mod GoodPlaces
 pub mod PathTexts
 pub mod DraftLaws
 pub mod Meeting
+pub mod Handing

@@ -3,6 +3,7 @@ use Rattle.std.proofs.Common.{◌≡◌, ◌∙◌, ◌+◌, ◌<◌, ◌≤◌,
 use Rattle.std.specs.List.{filter, flat_map, range_with_len}
 use Rattle.std.proofs.lemmas.Bool.{cases_eq, cases_lt, eqb-true, eq-eqb, ne_eqb, lt-ltb, ltb-true}
 use Rattle.std.proofs.lemmas.List.{get_or-set_same, get_or-set_other, get_or_past, get_or_at, length-set, length-replicate, get_or-replicate, append_assoc, append-nil, length-append, map-append}
+use Rattle.std.proofs.lemmas.Option.{slice_get-get_or}
 use Rattle.dts_tree.specs.declared.spot.Step.{Step}
 use Rattle.dts_tree.specs.declared.spot.Step.TheVariants.{Child, Prop}
 use Rattle.dts_tree.specs.declared.spot.Spot.{Spot}
@@ -14,7 +15,7 @@ use Rattle.dts_tree.specs.Whole.{walk, kept_children, preorder}
 use Rattle.dts_tree.specs.Inner.Arena.{ArenaData, is_gone, is_alive, spot}
 use Rattle.dts_tree.specs.Inner.Slots.{is_node}
 use Rattle.dts_tree.specs.Inner.Machine.{EventData, LabelsData, ReaderData}
-use Rattle.dts_tree.specs.Inner.Grown.{is_kid, with_kid, kids_from, kids_of, alive_list, below_in, AreRising, order_of}
+use Rattle.dts_tree.specs.Inner.Grown.{is_kid, with_kid, kids_from, kids_of, alive_list, below_in, AreRising, ParentsRise, order_of}
 use Rattle.dts_tree.proofs.Lists.{Member, member_of_filter, member_of_range, member_cases, filter_shown, and_parts, all_from}
 use Rattle.dts_tree.proofs.Shape.{IsShaped, IsSound, place_at, parent_at, step_at, spot_at, there_within}
 use Rattle.dts_tree.proofs.Gathering.{same_slot}
@@ -112,6 +113,13 @@ kids_rising spots keep node rise = record {
     let k = kid_known spots keep node i j m in
     lt-ltb j (length (kids_of spots keep node)) (subst (λ n. j < n) (sym (kids_length spots keep node)) k.2));
 }
+
+-- the same of spots whose parents stand before them
+pub rising_kids : (spots : List Spot) (keep : List Bool) (node : Bool) → ParentsRise spots → AreRising (kids_of spots keep node)
+rising_kids spots keep node rise = kids_rising spots keep node (λ j p l. rise.before j (spot_at spots j) (slice_get-get_or spots j (spot (Child []) 0) l) p)
+
+pub some_kids : (spots : List Spot) (keep : List Bool) (node : Bool) → ParentsRise spots → 0 < length (kids_of spots keep node)
+some_kids spots keep node rise = subst (λ n. 0 < n) (sym (kids_length spots keep node)) rise.some
 
 -- ---- against the places
 
