@@ -26,3 +26,4 @@ pub mod PathTexts
 pub mod DraftLaws
 pub mod Meeting
 pub mod Handing
+pub mod Chains
