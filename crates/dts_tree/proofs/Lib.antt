@@ -27,3 +27,4 @@ pub mod DraftLaws
 pub mod Meeting
 pub mod Handing
 pub mod Chains
+pub mod Leaving

@@ -1,11 +1,12 @@
 -- What sources leave keeps what drafts keep.
 use Rattle.std.proofs.Common.{◌≡◌, ◌∙◌, ◌+◌, ◌≤◌, ◌++◌, ◌||◌, ◌∷◌, [], ℕ, zero, suc, Bool, true, false, cond, List, Option, Some, None, Result, Ok, Err, length, refl, sym, subst, inl, inr, arith, ltb}
-use Rattle.std.specs.Prelude.{slice_get}
+use Rattle.std.specs.Prelude.{slice_get, All, IfOk}
 use Rattle.std.specs.List.{list_any, flat_map, filter}
 use Rattle.std.specs.Str.{bytes_eq}
 use Rattle.std.proofs.lemmas.Bool.{true≢false, ltb-false}
 use Rattle.std.proofs.lemmas.List.{length-append}
-use Rattle.std.proofs.lemmas.Option.{none-some}
+use Rattle.std.proofs.lemmas.Option.{none-some, slice_get_within, get_or_from_slice_get}
+use Rattle.edt_base.specs.declared.fault.End.{End}
 use Rattle.dts_parse.specs.StmtData.{StmtData}
 use Rattle.dts_parse.specs.Nested.{IsNested}
 use Rattle.dts_tree.specs.declared.spot.Step.{Step}
@@ -18,7 +19,9 @@ use Rattle.dts_tree.specs.Whole.{kept_children, always, whole, kept, stays}
 use Rattle.dts_tree.specs.Limits.{are_too_many, first_shared, first_large, first_label_shared}
 use Rattle.dts_tree.specs.Drafts.{DraftData, drafts}
 use Rattle.dts_tree.specs.Outcome.{labelled_or, sized_or, counted_or, left_by, drafted}
+use Rattle.dts_tree.specs.References.{AnswersAs}
 use Rattle.dts_tree.specs.Inner.DraftRules.{AreDrafts}
+use Rattle.dts_tree.proofs.Apart.{index_of}
 use Rattle.dts_tree.proofs.Lists.{Member, any_give, or_cases}
 use Rattle.dts_tree.proofs.PlaceLaws.{bytes_self}
 use Rattle.dts_tree.proofs.WalkLaws.{walk_from, walk_apart, walk_known, walk_less, IsBelow, all_follow, follow_at}
@@ -147,3 +150,15 @@ drafted_rules files scripts ds nest h =
     let c = counted_some b (are_too_many (whole b)) ds r.2 in
     let l = labelled_some b (first_label_shared b) ds (sized_some b (first_large b) ds c.1) in
     subst AreDrafts l.1 (walked_drafts (live b) (kept b) (walked b (read_good scripts b nest r.1) c.0 l.0))
+
+-- ---- of a call
+
+pub each_of : {X : Type 0} (P : X → Type 0) (xs : List X) → All P xs → (x : X) → Member x xs → P x
+each_of P xs h x m =
+    let r = index_of xs x m in
+    subst P (get_or_from_slice_get xs r.0 x x r.1) (h r.0 x (slice_get_within xs r.0 x r.1))
+
+pub rules_kept : {T : Type 0} (seen : T → List DraftData) (files : List (List ℕ)) (scripts : List (List StmtData)) (result : Result T End) → All IsNested scripts
+    → AnswersAs result seen (drafted files scripts) → IfOk result (λ x. AreDrafts (seen x))
+rules_kept seen files scripts (Ok x) nest h = drafted_rules files scripts (seen x) (λ s m. each_of IsNested scripts nest s m) h
+rules_kept seen files scripts (Err e) nest h = tt

@@ -1,6 +1,7 @@
 //! The nodes that sources leave, as drafts.
 
-ghost use Rattle.std.specs.Prelude.{◌≡◌, IfOk, length};
+ghost use Rattle.std.specs.Prelude.{◌≡◌, All, IfOk, length};
+ghost use Rattle.dts_parse.specs.Nested.{IsNested};
 ghost use Rattle.dts_tree.specs.Inner.DraftRules.{AreDrafts};
 ghost use Rattle.dts_tree.specs.Outcome.{drafted};
 ghost use Rattle.dts_tree.specs.References.{AnswersAs};
@@ -23,6 +24,14 @@ pub(crate) fn drafted_of(
     ensures drafted { AnswersAs result (λ v. v.items) (drafted files.now.items scripts.now.items) }
     ensures rules { IfOk result (λ v. AreDrafts v.items) }
 {
+    are_nested(scripts);
     let reader = read(alloc, files, scripts)?;
     left(alloc, &reader)
+}
+
+// The statements of each source nest well: by a call, a caller's proof learns it.
+fn are_nested(scripts: &Vec<Script>)
+    ensures { All IsNested scripts.now.items }
+{
+    let _scripts = scripts.as_slice();
 }
