@@ -77,9 +77,14 @@ impl Names {
         requires { same ≡ label }
         ensures { OnOk result (self.new ≡ self.old ++ label ∷ []) }
     {
-        let _ = self.seen.insert(same)?;
         self.list.push(label)?;
-        Ok(())
+        match self.seen.insert(same) {
+            Ok(_) => Ok(()),
+            Err(_) => {
+                let _ = self.list.pop();
+                Err(AllocError)
+            }
+        }
     }
 
     /// Whether the label is there.
