@@ -25,8 +25,10 @@ pub(crate) fn drafted_of(
     ensures rules { IfOk result (λ v. AreDrafts v.items) }
 {
     are_nested(scripts);
-    let reader = read(alloc, files, scripts)?;
-    left(alloc, &reader)
+    match read(alloc, files, scripts) {
+        Ok(reader) => left(alloc, &reader),
+        Err(end) => Err(end),
+    }
 }
 
 // The statements of each source nest well: by a call, a caller's proof learns it.

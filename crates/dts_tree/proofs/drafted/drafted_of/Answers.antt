@@ -12,19 +12,19 @@ use Rattle.dts_tree.proofs.drafted.drafted_of.Goals as goal
 pub left-requires : goal.left-requires
 left-requires c =
     rises c.args.files.now.items (carried_all 0 reader_start c.args.scripts.now.items) (read_all 0 start c.args.scripts.now.items) _
-    (all_follow c.args.scripts.now.items 0 reader_start start start_stands) c.in_ok-reader.ensures
+    (all_follow c.args.scripts.now.items 0 reader_start start start_stands) c.in-Ok.ensures
 
-pub returns-in_err-reader : goal.returns-in_err-reader
-returns-in_err-reader c = record {
+pub returns : goal.returns
+returns c = record {
   drafted = read_fails (λ v. v.items) c.args.files.now.items (carried_all 0 reader_start c.args.scripts.now.items) (read_all 0 start c.args.scripts.now.items) _
-      (all_follow c.args.scripts.now.items 0 reader_start start start_stands) c.in_err-reader.ensures;
+      (all_follow c.args.scripts.now.items 0 reader_start start start_stands) c.in-Err.ensures;
   rules = tt;
 }
 
-pub returns : goal.returns
-returns c =
+pub returns-in-Ok : goal.returns-in-Ok
+returns-in-Ok c =
     let same = left_answers c.args.files.now.items (carried_all 0 reader_start c.args.scripts.now.items) (read_all 0 start c.args.scripts.now.items) _
-    (all_follow c.args.scripts.now.items 0 reader_start start start_stands) c.in_ok-reader.ensures in
+    (all_follow c.args.scripts.now.items 0 reader_start start start_stands) c.in-Ok.ensures in
     let answers : AnswersAs c.left.result (λ v. v.items) (drafted c.args.files.now.items c.args.scripts.now.items) = subst (λ w. AnswersAs c.left.result (λ v. v.items) w) same c.left.ensures in
     record {
       drafted = answers;

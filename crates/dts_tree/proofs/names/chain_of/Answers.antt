@@ -8,5 +8,5 @@ pub loop-at-preserved : goal.loop-at-preserved
 loop-at-preserved c =
     let some : c.loop-at.at ≡ 0 → ⊥ = search rules in
     let put : c.push.new.self.items ≡ c.loop-at.chain.items ++ c.loop-at.at ∷ [] = search rules in
-    let up : c.slot_parent.result ≡ slot_parent c.args.spots.now c.loop-at.at = search rules in
-    chain_turn c.args.spots.now c.requires c.loop-at.at c.slot_parent.result c.args.slot c.loop-at.chain.items c.push.new.self.items some put up c.loop-at.invariant
+    let up : c.slot_parent-at.result ≡ slot_parent c.args.spots.now c.loop-at.at = search rules in
+    chain_turn c.args.spots.now c.requires c.loop-at.at c.slot_parent-at.result c.args.slot c.loop-at.chain.items c.push.new.self.items some put up c.loop-at.invariant
