@@ -35,5 +35,7 @@ pub(crate) fn drafted_of(
 fn are_nested(scripts: &Vec<Script>)
     ensures { All IsNested scripts.now.items }
 {
-    let _scripts = scripts.as_slice();
+    for script in scripts.as_slice() {
+        script.is_nested();
+    }
 }

@@ -14,13 +14,6 @@ left-requires c =
     rises c.args.files.now.items (carried_all 0 reader_start c.args.scripts.now.items) (read_all 0 start c.args.scripts.now.items) _
     (all_follow c.args.scripts.now.items 0 reader_start start start_stands) c.in-Ok.ensures
 
-pub returns : goal.returns
-returns c = record {
-  drafted = read_fails (λ v. v.items) c.args.files.now.items (carried_all 0 reader_start c.args.scripts.now.items) (read_all 0 start c.args.scripts.now.items) _
-      (all_follow c.args.scripts.now.items 0 reader_start start start_stands) c.in-Err.ensures;
-  rules = tt;
-}
-
 pub returns-in-Ok : goal.returns-in-Ok
 returns-in-Ok c =
     let same = left_answers c.args.files.now.items (carried_all 0 reader_start c.args.scripts.now.items) (read_all 0 start c.args.scripts.now.items) _
