@@ -16,3 +16,6 @@ pub mod Gathering
 pub mod Ordering
 pub mod Measuring
 pub mod Sizing
+pub mod Giving
+pub mod CellLaws
+pub mod PropLaws
