@@ -19,3 +19,7 @@ pub mod Sizing
 pub mod Giving
 pub mod CellLaws
 pub mod PropLaws
+pub mod Numbering
+pub mod Phandling
+pub mod NodeLaws
+pub mod Forming
