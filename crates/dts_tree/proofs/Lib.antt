@@ -23,3 +23,6 @@ pub mod Numbering
 pub mod Phandling
 pub mod NodeLaws
 pub mod Forming
+pub mod PathLaws
+pub mod KidLaws
+pub mod Settling

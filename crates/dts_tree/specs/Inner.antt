@@ -7,4 +7,5 @@ pub mod Grown
 pub mod Left
 pub mod Machine
 pub mod Naming
+pub mod Nodes
 pub mod Slots
