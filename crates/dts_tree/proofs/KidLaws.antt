@@ -1,9 +1,9 @@
 -- The children of each node, with one draft more; and nodes from drafts, properties and children side by side.
-use Rattle.std.proofs.Common.{◌≡◌, ◌∙◌, ◌+◌, ◌<◌, ◌≤◌, ◌++◌, ◌∷◌, [], ℕ, zero, suc, Bool, true, false, cond, List, Option, Some, None, length, map, get_or, set, take, drop, replicate, refl, sym, ap, subst, inl, inr, arith}
+use Rattle.std.proofs.Common.{◌≡◌, ◌∙◌, ◌+◌, ◌<◌, ◌≤◌, ◌++◌, ◌⊎◌, ◌∷◌, [], ℕ, zero, suc, Bool, true, false, cond, List, Option, Some, None, length, map, get_or, set, take, drop, replicate, refl, sym, ap, subst, inl, inr, arith}
 use Rattle.std.specs.List.{range_with_len, enumerate_from}
 use Rattle.std.proofs.lemmas.Bool.{cases_lt, cases_eq}
 use Rattle.std.proofs.lemmas.Bool.Decides.{nat_tests}
-use Rattle.std.proofs.lemmas.List.{take_more, length-take-le, length-set, length-map, append-nil, same_lists, get_or-set_same, get_or-set_other, get_or_past, set_past, get_or_default}
+use Rattle.std.proofs.lemmas.List.{take_more, length-take-le, length-set, length-map, append-nil, append_assoc, same_lists, get_or-set_same, get_or-set_other, get_or_past, set_past, get_or_default}
 use Rattle.std.proofs.lemmas.List.FromFn.{length-map-range_with_len, get_or-map-range_with_len}
 use Rattle.edt_base.specs.NodeData.{NodeData, holds_number}
 use Rattle.edt_base.specs.declared.node.Part.{Part}
@@ -71,12 +71,12 @@ none_at : (ds : List DraftData) (i : ℕ) (d : DraftData) (k : ℕ) → i < leng
 none_at ds i d k l at up =
     sym (below_more ds i d k l at ∙ (ap (λ t. below_from 0 (take i ds) k ++ cond t (i ∷ []) []) (ap (holds_number k) up) ∙ append-nil (below_from 0 (take i ds) k)))
 
-lists_same : (as bs : List DraftData) (n : ℕ) → ((k : ℕ) → below_from 0 as k ≡ below_from 0 bs k) → lists_of as n ≡ lists_of bs n
-lists_same as bs n h = maps (range_with_len 0 n)
+lists_same : (old new : List DraftData) (n : ℕ) → ((k : ℕ) → below_from 0 old k ≡ below_from 0 new k) → lists_of old n ≡ lists_of new n
+lists_same old new n h = maps (range_with_len 0 n)
   where
-    maps : (xs : List ℕ) → map (below_from 0 as) xs ≡ map (below_from 0 bs) xs
+    maps : (xs : List ℕ) → map (below_from 0 old) xs ≡ map (below_from 0 new) xs
     maps [] = refl
-    maps (x ∷ xs) = ap (λ t. below_from 0 as x ∷ t) (maps xs) ∙ ap (λ y. y ∷ map (below_from 0 bs) xs) (h x)
+    maps (x ∷ xs) = ap (λ t. below_from 0 old x ∷ t) (maps xs) ∙ ap (λ y. y ∷ map (below_from 0 new) xs) (h x)
 
 more_by : (o : Option ℕ) (ds : List DraftData) (i : ℕ) (d : DraftData) (n : ℕ) → i < length ds → d ≡ get_or ds i d → d.parent ≡ o
     → with_child (lists_of (take i ds) n) o i ≡ lists_of (take (i + 1) ds) n
@@ -122,3 +122,26 @@ pub nodes_beside : (ds : List DraftData) (props : List (List (List ℕ × List P
     → nodes_from ds props (map (below_from 0 ds) (range_with_len 0 (length ds))) ≡ nodes_of ds props
 unfolding nodes_of
 nodes_beside ds props long = beside ds props 0 ds props long (λ i. let e : i ≡ 0 + i = omega arith in ap (λ n. get_or props n []) e)
+
+-- one node more from the heads of the lists
+pub node_more : (made : List NodeData) (ds ds2 : List DraftData) (ps ps2 : List (List (List ℕ × List Part))) (ks ks2 : List (List ℕ)) (d : DraftData)
+    (p : List (List ℕ × List Part)) (k : List ℕ) (whole : List NodeData) → ds ≡ d ∷ ds2 → ps ≡ p ∷ ps2 → ks ≡ k ∷ ks2
+    → made ++ nodes_from ds ps ks ≡ whole → (made ++ node_of d p k ∷ []) ++ nodes_from ds2 ps2 ks2 ≡ whole
+node_more made ds ds2 ps ps2 ks ks2 d p k whole e f g h =
+    append_assoc made (node_of d p k ∷ []) (nodes_from ds2 ps2 ks2)
+    ∙ (ap (λ x. made ++ nodes_from x (p ∷ ps2) (k ∷ ks2)) (sym e)
+    ∙ (ap (λ x. made ++ nodes_from ds x (k ∷ ks2)) (sym f)
+    ∙ (ap (λ x. made ++ nodes_from ds ps x) (sym g) ∙ h)))
+
+none_left : (ds : List DraftData) (ps : List (List (List ℕ × List Part))) (ks : List (List ℕ)) → ((ds ≡ []) ⊎ (ps ≡ [])) ⊎ (ks ≡ []) → nodes_from ds ps ks ≡ []
+none_left [] ps ks h = refl
+none_left (d ∷ ds) [] ks h = refl
+none_left (d ∷ ds) (p ∷ ps) [] h = refl
+none_left (d ∷ ds) (p ∷ ps) (k ∷ ks) (inl (inl h)) = cc
+none_left (d ∷ ds) (p ∷ ps) (k ∷ ks) (inl (inr h)) = cc
+none_left (d ∷ ds) (p ∷ ps) (k ∷ ks) (inr h) = cc
+
+-- all nodes are made once a list ends
+pub nodes_ended : (made : List NodeData) (ds : List DraftData) (ps : List (List (List ℕ × List Part))) (ks : List (List ℕ)) (whole : List NodeData)
+    → ((ds ≡ []) ⊎ (ps ≡ [])) ⊎ (ks ≡ []) → made ++ nodes_from ds ps ks ≡ whole → made ≡ whole
+nodes_ended made ds ps ks whole h e = sym (append-nil made) ∙ (ap (λ x. made ++ x) (sym (none_left ds ps ks h)) ∙ e)

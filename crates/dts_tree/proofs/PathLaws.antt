@@ -1,5 +1,5 @@
 -- Nodes by their paths, and the first place of a list that grows.
-use Rattle.std.proofs.Common.{◌≡◌, ◌∙◌, ◌+◌, ◌<◌, ◌≤◌, ◌++◌, ◌∷◌, [], ℕ, suc, Bool, true, false, cond, List, Option, Some, None, length, get_or, take, refl, sym, ap, subst, inl, inr, arith, eqb, ltb}
+use Rattle.std.proofs.Common.{◌≡◌, ◌∙◌, ◌+◌, ◌<◌, ◌≤◌, ◌++◌, ◌∷◌, [], ℕ, Bool, true, false, not, cond, List, Option, Some, None, length, get_or, take, refl, sym, ap, subst, inl, inr, arith, eqb, ltb}
 use Rattle.std.specs.Prelude.{position}
 use Rattle.std.specs.Option.{option_or}
 use Rattle.std.specs.List.{position_or_len}
@@ -8,6 +8,7 @@ use Rattle.std.proofs.lemmas.Bool.{cases_lt}
 use Rattle.std.proofs.lemmas.Bool.Decides.{nat_tests}
 use Rattle.std.proofs.lemmas.List.{take_more, length-take-le, length_push}
 use Rattle.std.proofs.lemmas.List.Folds.{position_or_len_push}
+use Rattle.std.proofs.lemmas.List.Sums.{prefix_len-le-length}
 use Rattle.dts_tree.specs.Drafts.{DraftData}
 use Rattle.dts_tree.specs.Final.{has_draft_path, node_at}
 use Rattle.dts_tree.proofs.PropLaws.{bytes_same}
@@ -29,12 +30,7 @@ pub noted : (f : List ℕ → Option ℕ) (path q : List ℕ) (place : ℕ) → 
 noted f path q place none = note_by (bytes_eq path q) f path q place refl none
 
 place_within : {X : Type 0} (p : X → Bool) (xs : List X) → position_or_len p xs ≤ length xs
-place_within p [] = omega arith
-place_within p (x ∷ xs) = by (p x) (position_or_len p xs) (length xs) (place_within p xs)
-  where
-    by : (b : Bool) (n m : ℕ) → n ≤ m → cond b 0 (suc n) ≤ suc m
-    by true n m h = omega arith
-    by false n m h = omega arith
+place_within p xs = prefix_len-le-length (λ x. not (p x)) xs
 
 push_by : (b : Bool) (n m k l : ℕ) → n ≤ m → k ≡ cond (eqb n m) (m + cond b 0 1) n → l ≡ m + 1
     → cond (ltb k l) (Some k) None ≡ option_or (cond (ltb n m) (Some n) None) (cond b (Some m) None)

@@ -1,7 +1,7 @@
 -- The answer of the second half, from its parts.
-use Rattle.std.proofs.Common.{◌≡◌, ◌∙◌, ◌+◌, ◌<◌, ◌≤◌, ◌^◌, ◌∷◌, [], ℕ, Bool, true, false, List, Option, Some, None, Result, Ok, Err, length, map, get_or, refl, sym, ap, subst, arith, All}
-use Rattle.std.specs.Prelude.{codes, find, IfSome, slice_get}
-use Rattle.std.specs.List.{filter_map, range_with_len, enumerate_from}
+use Rattle.std.proofs.Common.{◌≡◌, ◌∙◌, ◌+◌, ◌<◌, ◌≤◌, ◌^◌, ◌∷◌, [], ℕ, Bool, true, false, List, Option, Some, None, Result, Ok, Err, length, map, get_or, drop, zero, suc, cond, refl, sym, ap, subst, arith, All}
+use Rattle.std.specs.Prelude.{codes, find, is_none, IfSome, slice_get}
+use Rattle.std.specs.List.{filter_map, list_any, range_with_len, enumerate_from}
 use Rattle.std.proofs.lemmas.List.{length-map}
 use Rattle.std.proofs.lemmas.List.FromFn.{length-enumerate_from}
 use Rattle.std.proofs.lemmas.Option.{slice_get-get_or}
@@ -13,8 +13,9 @@ use Rattle.edt_base.specs.declared.fault.Fault.{Fault}
 use Rattle.edt_base.specs.declared.fault.Rule.TheVariants as rule
 use Rattle.edt_base.specs.declared.node.Part.{Part}
 use Rattle.dts_tree.specs.Drafts.{DraftData}
-use Rattle.dts_tree.specs.Final.{phandles, props_of, props_with, all_props, props_at, below_from, naming_prop, nodes_of, tree_of}
-use Rattle.dts_tree.specs.Rules.{dangles, first_bad_phandle, first_mistyped, has_bad_alias}
+use Rattle.dts_tree.specs.Final.{phandles, props_of, props_with, all_props, props_at, below_from, node_at, naming_prop, naming_with, named_with, props_found, nodes_of, tree_of}
+use Rattle.dts_tree.specs.Rules.{dangles, first_bad_phandle, first_mistyped, has_bad_alias, is_mistyped}
+use Rattle.dts_tree.specs.Inner.Naming.{Finder, finder, AreFound}
 use Rattle.dts_tree.specs.Outcome.{at_path, mistyped_or, aliased_or, numbered_or, referred_or, settled}
 use Rattle.dts_tree.specs.References.{Answers, IsFault}
 use Rattle.dts_tree.specs.Inner.DraftRules.{AreDrafts}
@@ -24,7 +25,7 @@ use Rattle.dts_tree.proofs.Forming.{formed}
 
 -- a call that ends by a fault that is wanted
 pub fault_answers : {X : Type 0} (wanted : Result X Fault) (f : Fault) (e : End) → wanted ≡ Err f → IsFault f e → Answers wanted (Err e)
-fault_answers wanted f (ending.Fault g) h k = h ∙ ap Err (sym k)
+fault_answers wanted f (ending.Fault g) h k = h ∙ ap Err k
 fault_answers wanted f (ending.Memory m) h k = tt
 
 pub dangling_answers : (ds : List DraftData) (d : DraftData) (e : End) → Some d ≡ find dangles ds → IsFault (at_path rule.V1 d.path) e → Answers (settled ds) (Err e)
@@ -87,3 +88,30 @@ low_by ds a i d (Some p) l h e =
 
 pub low_parents : (ds : List DraftData) → AreDrafts ds → All HasLowParent ds
 low_parents ds a = λ k d l. low_by ds a k (get_or ds k d) (get_or ds k d).parent l (slice_get-get_or ds k d l) refl
+
+-- ---- look-ups by a map of paths are those by the drafts
+
+same_finder : (ds : List DraftData) (m : Finder) → AreFound ds m → finder m ≡ node_at ds
+same_finder ds m h = λ i path. h path i
+
+pub named_found : (ds : List DraftData) (m : Finder) (props : List (List (List ℕ × List Part))) (path : List ℕ) (xs : List (List ℕ × ℕ)) → AreFound ds m
+    → xs ≡ filter_map (naming_with (finder m)) (props_found (finder m) props path) → xs ≡ filter_map (naming_prop ds) (props_at ds props path)
+named_found ds m props path xs h e =
+    let F : (List ℕ → Option ℕ) → List (List ℕ × ℕ) = λ f. filter_map (naming_with f) (props_found f props path) in
+    e ∙ ap F (same_finder ds m h)
+
+pub nameless_found : (ds : List DraftData) (m : Finder) (props : List (List (List ℕ × List Part))) (b : Bool) → AreFound ds m
+    → b ≡ list_any (λ (p : List ℕ × List Part). is_none (named_with (finder m) p.1)) (props_found (finder m) props (codes "/aliases")) → b ≡ has_bad_alias ds props
+nameless_found ds m props b h e =
+    let F : (List ℕ → Option ℕ) → Bool = λ f. list_any (λ (p : List ℕ × List Part). is_none (named_with f p.1)) (props_found f props (codes "/aliases")) in
+    e ∙ ap F (same_finder ds m h)
+
+-- ---- a node that isn't mistyped is passed
+
+pub mistyped_next : (ds : List DraftData) (ps : List (List (List ℕ × List Part))) (i : ℕ) (p : List (List ℕ × List Part)) → length ps ≡ length ds → i < length ps
+    → p ≡ get_or ps i p → is_mistyped p ≡ false → first_mistyped (drop i ds) (drop i ps) ≡ first_mistyped (drop (suc i) ds) (drop (suc i) ps)
+mistyped_next [] [] i p long l at h = absurd (omega arith)
+mistyped_next [] (q ∷ ps) i p long l at h = absurd (omega arith)
+mistyped_next (d ∷ ds) [] i p long l at h = absurd (omega arith)
+mistyped_next (d ∷ ds) (q ∷ ps) zero p long l at h = ap (λ b. cond b (Some d) (first_mistyped ds ps)) (ap is_mistyped (sym at) ∙ h)
+mistyped_next (d ∷ ds) (q ∷ ps) (suc i) p long l at h = mistyped_next ds ps i p (omega arith) (omega arith) at h

@@ -157,15 +157,21 @@ has_draft_path path d = bytes_eq d.path path
 abbrev pub node_at : List DraftData → List ℕ → Option ℕ
 node_at ds path = position (has_draft_path path) ds
 
--- the node whose path a value spells: one text or path, before its last zero
+-- the node whose path a value spells: one text or path, before its last zero; `find` tells the node of a path
+abbrev pub named_with : (List ℕ → Option ℕ) → List Part → Option ℕ
+named_with find [] = None
+named_with find (p ∷ []) = if spells_path p.kind then find (before_last p.bytes) else None
+named_with find (p ∷ q ∷ ps) = None
+
 abbrev pub named_by : List DraftData → List Part → Option ℕ
-named_by ds [] = None
-named_by ds (p ∷ []) = if spells_path p.kind then node_at ds (before_last p.bytes) else None
-named_by ds (p ∷ q ∷ ps) = None
+named_by ds parts = named_with (node_at ds) parts
 
 -- a property with the node that it names
+abbrev pub naming_with : (List ℕ → Option ℕ) → List ℕ × List Part → Option (List ℕ × ℕ)
+naming_with find p = option_map (λ i. (p.0, i)) (named_with find p.1)
+
 abbrev pub naming_prop : List DraftData → List ℕ × List Part → Option (List ℕ × ℕ)
-naming_prop ds p = option_map (λ i. (p.0, i)) (named_by ds p.1)
+naming_prop ds p = naming_with (node_at ds) p
 
 -- ---- nodes and tree
 
@@ -177,8 +183,11 @@ unfoldable pub all_props : List DraftData → List (List (List ℕ × List Part)
 all_props ds = props_with ds (phandles ds)
 
 -- the properties of the node of a path, none where it isn't there
+abbrev pub props_found : (List ℕ → Option ℕ) → List (List (List ℕ × List Part)) → List ℕ → List (List ℕ × List Part)
+props_found find props path = option_map_or (λ i. slice_index_or props i []) (find path) []
+
 abbrev pub props_at : List DraftData → List (List (List ℕ × List Part)) → List ℕ → List (List ℕ × List Part)
-props_at ds props path = option_map_or (λ i. slice_index_or props i []) (node_at ds path) []
+props_at ds props path = props_found (node_at ds) props path
 
 -- the places of the drafts whose parent has this place, where the first of these has this one
 abbrev pub below_from : ℕ → List DraftData → ℕ → List ℕ

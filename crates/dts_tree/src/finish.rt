@@ -142,9 +142,20 @@ fn part_dangles(part: &DraftPart) -> bool
 {
     match part {
         DraftPart::Ready(_) => false,
-        DraftPart::Mixed(cells) => cells.as_slice().iter().any(|cell| cell_dangles(cell)),
+        DraftPart::Mixed(cells) => one_dangles(cells.as_slice()),
         DraftPart::PathTo(place) => place.is_none(),
     }
+}
+
+fn one_dangles(cells: &[DraftCell]) -> bool
+    ensures { result ≡ list_any cell_dangles cells.now }
+{
+    for cell in cells {
+        if cell_dangles(cell) {
+            return true;
+        }
+    }
+    false
 }
 
 fn cell_dangles(cell: &DraftCell) -> bool

@@ -9,9 +9,8 @@ ghost use Rattle.std.specs.Ordering.{nat_cmp};
 ghost use Rattle.std.specs.Cmp.Lexicographic.{slice_cmp};
 ghost use Rattle.std.specs.Str.{bytes_eq};
 ghost use Rattle.edt_base.specs.declared.node.Part.{Part};
-ghost use Rattle.dts_tree.specs.Drafts.{DraftData};
-ghost use Rattle.dts_tree.specs.Final.{before_last, spells_path, named_by, naming_prop, props_at};
-ghost use Rattle.dts_tree.specs.Inner.Naming.{AreFound, props_or_none};
+ghost use Rattle.dts_tree.specs.Final.{before_last, spells_path, named_with, naming_with, props_found};
+ghost use Rattle.dts_tree.specs.Inner.Naming.{AreFound, finder, props_or_none};
 
 use crate::draft::Draft;
 use crate::values::Props;
@@ -58,8 +57,7 @@ fn props_at<'p>(
     all: &'p [Props],
     path: &str,
 ) -> Option<&'p Props>
-    ensures { (ds : List DraftData) → AreFound ds paths.now →
-        props_or_none (option_map (λ p. p.now) result) ≡ props_at ds all.now path.now }
+    ensures { props_or_none (option_map (λ p. p.now) result) ≡ props_found (finder paths.now) all.now path.now }
 {
     let place = paths.get(path.as_bytes())?;
     all.get(place.0 as usize)
@@ -71,8 +69,7 @@ pub(crate) fn is_one_nameless_at(
     all: &[Props],
     path: &str,
 ) -> bool
-    ensures { (ds : List DraftData) → AreFound ds paths.now →
-        result ≡ list_any (λ (p : List ℕ × List Part). is_none (named_by ds p.1)) (props_at ds all.now path.now) }
+    ensures { result ≡ list_any (λ (p : List ℕ × List Part). is_none (named_with (finder paths.now) p.1)) (props_found (finder paths.now) all.now path.now) }
 {
     match props_at(paths, all, path) {
         Some(props) => is_one_nameless(paths, props),
@@ -87,8 +84,7 @@ pub(crate) fn named_at(
     all: &[Props],
     path: &str,
 ) -> Result<Vec<(Text, NodeId)>, AllocError>
-    ensures { IfOk result (λ v. (ds : List DraftData) → AreFound ds paths.now →
-        v.items ≡ filter_map (naming_prop ds) (props_at ds all.now path.now)) }
+    ensures { IfOk result (λ v. v.items ≡ filter_map (naming_with (finder paths.now)) (props_found (finder paths.now) all.now path.now)) }
 {
     match props_at(paths, all, path) {
         Some(props) => named(alloc, paths, props),
@@ -98,8 +94,7 @@ pub(crate) fn named_at(
 
 /// Whether one of these properties names no node.
 fn is_one_nameless(paths: &BTreeMap<&[u8], NodeId>, props: &Props) -> bool
-    ensures { (ds : List DraftData) → AreFound ds paths.now →
-        result ≡ list_any (λ (p : List ℕ × List Part). is_none (named_by ds p.1)) props.now }
+    ensures { result ≡ list_any (λ (p : List ℕ × List Part). is_none (named_with (finder paths.now) p.1)) props.now }
 {
     for (_, value) in props.map.iter() {
         if named_by(paths, value).is_none() {
@@ -115,8 +110,7 @@ fn named(
     paths: &BTreeMap<&[u8], NodeId>,
     props: &Props,
 ) -> Result<Vec<(Text, NodeId)>, AllocError>
-    ensures { IfOk result (λ v. (ds : List DraftData) → AreFound ds paths.now →
-        v.items ≡ filter_map (naming_prop ds) props.now) }
+    ensures { IfOk result (λ v. v.items ≡ filter_map (naming_with (finder paths.now)) props.now) }
 {
     let mut pairs = Vec::new(alloc);
     for (name, value) in props.map.iter() {
@@ -130,7 +124,7 @@ fn named(
 
 // The node whose path a value spells.
 fn named_by(paths: &BTreeMap<&[u8], NodeId>, value: &PropVal) -> Option<NodeId>
-    ensures { (ds : List DraftData) → AreFound ds paths.now → result ≡ named_by ds value.now }
+    ensures { result ≡ named_with (finder paths.now) value.now }
 {
     match value.parts.as_slice() {
         [part] if spells_path(part.kind) => {

@@ -8,9 +8,15 @@ use Rattle.edt_base.specs.declared.node.Part.{Part}
 use Rattle.dts_tree.specs.Drafts.{DraftData}
 use Rattle.dts_tree.specs.Final.{node_at}
 
+abbrev pub Finder : Type 0
+Finder = BTreeMap (Bor (List ℕ)) ℕ
+
+abbrev pub finder : Finder → List ℕ → Option ℕ
+finder m path = get_by (λ k. slice_cmp nat_cmp path k.now) m
+
 -- the map has each draft by its path
-abbrev pub AreFound : List DraftData → BTreeMap (Bor (List ℕ)) ℕ → Type 0
-AreFound ds m = (path : List ℕ) → get_by (λ k. slice_cmp nat_cmp path k.now) m ≡ node_at ds path
+abbrev pub AreFound : List DraftData → Finder → Type 0
+AreFound ds m = (path : List ℕ) → finder m path ≡ node_at ds path
 
 abbrev pub props_or_none : Option (List (List ℕ × List Part)) → List (List ℕ × List Part)
 props_or_none None = []
