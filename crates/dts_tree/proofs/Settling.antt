@@ -1,6 +1,6 @@
 -- The answer of the second half, from its parts.
 use Rattle.std.proofs.Common.{◌≡◌, ◌∙◌, ◌+◌, ◌<◌, ◌≤◌, ◌^◌, ◌∷◌, [], ℕ, Bool, true, false, List, Option, Some, None, Result, Ok, Err, length, map, get_or, drop, zero, suc, cond, refl, sym, ap, subst, arith, All}
-use Rattle.std.specs.Prelude.{codes, find, is_none, IfSome, slice_get}
+use Rattle.std.specs.Prelude.{codes, find, is_none, IfOk, IfSome, slice_get}
 use Rattle.std.specs.List.{filter_map, list_any, range_with_len, enumerate_from}
 use Rattle.std.proofs.lemmas.List.{length-map}
 use Rattle.std.proofs.lemmas.List.FromFn.{length-enumerate_from}
@@ -115,3 +115,7 @@ mistyped_next [] (q ∷ ps) i p long l at h = absurd (omega arith)
 mistyped_next (d ∷ ds) [] i p long l at h = absurd (omega arith)
 mistyped_next (d ∷ ds) (q ∷ ps) zero p long l at h = ap (λ b. cond b (Some d) (first_mistyped ds ps)) (ap is_mistyped (sym at) ∙ h)
 mistyped_next (d ∷ ds) (q ∷ ps) (suc i) p long l at h = mistyped_next ds ps i p (omega arith) (omega arith) at h
+
+pub same_ok : {E : Type 0} (r : Result TreeData E) (t u : TreeData) → IfOk r (λ x. x ≡ t) → t ≡ u → IfOk r (λ x. x ≡ u)
+same_ok (Ok x) t u h e = h ∙ e
+same_ok (Err x) t u h e = tt
