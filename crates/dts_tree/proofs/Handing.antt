@@ -6,11 +6,11 @@ use Rattle.edt_base.specs.declared.fault.End.{End}
 use Rattle.edt_base.specs.declared.fault.End.TheVariants as ending
 use Rattle.dts_tree.specs.Drafts.{DraftData}
 use Rattle.dts_tree.specs.Outcome.{settled, settled_or}
-use Rattle.dts_tree.specs.References.{AnswersAs, Tells}
+use Rattle.dts_tree.specs.References.{AnswersAs, Answers}
 
-pub ends_before : {T : Type 0} (U : Type 0) (seen : T → List DraftData) (w : Result (List DraftData) Fault) (e : End) → AnswersAs {T = T} (Err e) seen w → Tells {T = U} (settled_or w) (Err e)
-ends_before U seen w (ending.Fault g) h = ap settled_or h
-ends_before U seen w (ending.Memory e) h = h
+pub ends_before : {T : Type 0} (seen : T → List DraftData) (w : Result (List DraftData) Fault) (e : End) → AnswersAs {T = T} (Err e) seen w → Answers (settled_or w) (Err e)
+ends_before seen w (ending.Fault g) h = ap settled_or h
+ends_before seen w (ending.Memory e) h = h
 
-pub goes_on : {U : Type 0} (w : Result (List DraftData) Fault) (ds : List DraftData) (result : Result U End) → w ≡ Ok ds → Tells (settled ds) result → Tells (settled_or w) result
-goes_on w ds result h t = subst (λ x. Tells (settled_or x) result) (sym h) t
+pub goes_on : (w : Result (List DraftData) Fault) (ds : List DraftData) (result : Result TreeData End) → w ≡ Ok ds → Answers (settled ds) result → Answers (settled_or w) result
+goes_on w ds result h t = subst (λ x. Answers (settled_or x) result) (sym h) t

@@ -28,3 +28,13 @@ pub mod Meeting
 pub mod Handing
 pub mod Chains
 pub mod Leaving
+pub mod Giving
+pub mod CellLaws
+pub mod PropLaws
+pub mod Numbering
+pub mod Phandling
+pub mod NodeLaws
+pub mod Forming
+pub mod PathLaws
+pub mod KidLaws
+pub mod Settling

@@ -2,7 +2,10 @@ pub mod Arena
 pub mod DraftForm
 pub mod DraftRules
 pub mod Finding
+pub mod Giving
 pub mod Grown
 pub mod Left
 pub mod Machine
+pub mod Naming
+pub mod Nodes
 pub mod Slots

@@ -28,7 +28,7 @@ aliased_or ds true = Err (at_path rule.V3 (codes "/aliases"))
 aliased_or ds false = mistyped_or ds (first_mistyped ds (all_props ds))
 
 abbrev pub numbered_or : List DraftData → Option DraftData → Result TreeData Fault
-numbered_or ds None = aliased_or ds (has_bad_alias ds)
+numbered_or ds None = aliased_or ds (has_bad_alias ds (all_props ds))
 numbered_or ds (Some d) = Err (at_path rule.V2 d.path)
 
 abbrev pub referred_or : List DraftData → Option DraftData → Result TreeData Fault

@@ -2,7 +2,7 @@
 
 ghost use Rattle.std.specs.Prelude.{◌≡◌, length};
 ghost use Rattle.dts_tree.specs.Outcome.{outcome};
-ghost use Rattle.dts_tree.specs.References.{Tells};
+ghost use Rattle.dts_tree.specs.References.{Answers};
 
 use crate::drafted::drafted_of;
 use crate::finish::finish;
@@ -22,7 +22,7 @@ use std::alloc::Global;
 /// Takes time n log n in the statements.
 pub fn build(alloc: Global, files: &Vec<Text>, scripts: &Vec<Script>) -> Result<Tree, End>
     requires { length files.now.items ≡ length scripts.now.items }
-    ensures { Tells (outcome files.now.items scripts.now.items) result }
+    ensures { Answers (outcome files.now.items scripts.now.items) result }
 {
     match drafted_of(alloc, files, scripts) {
         Ok(drafts) => finish(alloc, drafts),

@@ -13,7 +13,9 @@ mod grown;
 mod labels;
 mod laws;
 mod left;
+mod named;
 mod names;
+mod nodes;
 mod order;
 mod parts;
 mod phandles;
@@ -23,6 +25,7 @@ mod slots;
 mod sources;
 mod spot;
 mod stop;
+mod values;
 
 pub use building::build;
 pub use laws::deeds_stay_until_they_are_covered;

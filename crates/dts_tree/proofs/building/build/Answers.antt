@@ -7,4 +7,4 @@ pub returns-in-Ok : goal.returns-in-Ok
 returns-in-Ok c = goes_on (drafted c.args.files.now.items c.args.scripts.now.items) _ _ c.in-Ok.ensures.drafted c.finish.ensures
 
 pub returns : goal.returns
-returns c = ends_before _ _ (drafted c.args.files.now.items c.args.scripts.now.items) _ c.in-Err.ensures.drafted
+returns c = ends_before (λ v. v.items) (drafted c.args.files.now.items c.args.scripts.now.items) _ c.in-Err.ensures.drafted
