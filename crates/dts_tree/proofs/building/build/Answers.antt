@@ -6,5 +6,5 @@ use Rattle.dts_tree.proofs.building.build.Goals as goal
 pub returns-in-Ok : goal.returns-in-Ok
 returns-in-Ok c = goes_on (drafted c.args.files.now.items c.args.scripts.now.items) _ _ c.in-Ok.ensures.drafted c.finish.ensures
 
-pub returns : goal.returns
-returns c = ends_before (λ v. v.items) (drafted c.args.files.now.items c.args.scripts.now.items) _ c.in-Err.ensures.drafted
+pub returns-in-Err : goal.returns-in-Err
+returns-in-Err c = ends_before _ (drafted c.args.files.now.items c.args.scripts.now.items) _ c.in-Err.ensures.drafted

@@ -23,3 +23,8 @@ returns-in-Ok c =
       drafted = answers;
       rules = rules_kept (λ v. v.items) c.args.files.now.items c.args.scripts.now.items c.left.result c.are_nested.ensures answers;
     }
+
+pub returns-in-Err-clause-drafted : goal.returns-in-Err-clause-drafted
+returns-in-Err-clause-drafted c =
+    read_fails _ c.args.files.now.items (carried_all 0 reader_start c.args.scripts.now.items) (read_all 0 start c.args.scripts.now.items) c.in-Err.end
+    (all_follow c.args.scripts.now.items 0 reader_start start start_stands) c.in-Err.ensures
