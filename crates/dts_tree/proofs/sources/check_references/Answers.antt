@@ -12,5 +12,5 @@ returns-in-Ok c =
 
 pub returns : goal.returns
 returns c =
-    tells_err _ c.args.files.now.items (carried_all 0 reader_start c.args.scripts.now.items) (read_all 0 start c.args.scripts.now.items) _
+    tells_err (Unit {0}) c.args.files.now.items (carried_all 0 reader_start c.args.scripts.now.items) (read_all 0 start c.args.scripts.now.items) _
     (all_follow c.args.scripts.now.items 0 reader_start start start_stands) c.in-Err.ensures
