@@ -1,13 +1,13 @@
 -- A slot more: what is kept.
-use Rattle.std.proofs.Common.{◌≡◌, ◌∙◌, ◌+◌, ◌-◌, ◌<◌, ◌≤◌, ◌++◌, ◌⊎◌, ◌∷◌, [], ℕ, zero, suc, Bool, true, false, not, cond, List, Option, Some, None, length, get_or, set, refl, sym, ap, subst, inl, inr, arith}
-use Rattle.std.proofs.lemmas.Bool.{false≢true, true≢false, cases_lt, cases_eq, cases_Bool}
+use Rattle.std.proofs.Common.{◌≡◌, ◌∙◌, ◌+◌, ◌<◌, ◌++◌, ◌⊎◌, ◌∷◌, [], ℕ, true, false, List, Some, None, length, get_or, refl, sym, ap, subst, inl, inr, arith}
+use Rattle.std.proofs.lemmas.Bool.{true≢false, cases_lt, cases_eq, cases_Bool}
 use Rattle.std.proofs.lemmas.List.{get_or_append_left, get_or_push, get_or-set_same, get_or-set_other, get_or_past, length-set, length_push}
 use Rattle.std.proofs.lemmas.Option.{same_Some, none-some}
 use Rattle.dts_tree.specs.declared.spot.Step.{Step}
 use Rattle.dts_tree.specs.declared.spot.Step.TheVariants.{Child, Prop}
 use Rattle.dts_tree.specs.declared.spot.Spot.{Spot}
 use Rattle.dts_tree.specs.Places.{Place, step_eq}
-use Rattle.dts_tree.specs.Inner.Arena.{ArenaData, LeadsData, is_gone, lead_of, with_lead, no_leads, child_of, spot, pushed, leading, added, root_arena}
+use Rattle.dts_tree.specs.Inner.Arena.{ArenaData, LeadsData, is_gone, lead_of, with_lead, no_leads, child_of, spot, pushed, leading, added}
 use Rattle.dts_tree.proofs.Lists.{Member, member_left, member_right, member_cases}
 use Rattle.dts_tree.proofs.NameLaws.{named_same, named_other}
 use Rattle.dts_tree.proofs.PlaceLaws.{same_step, step_self}

@@ -1,28 +1,26 @@
 -- A statement that is carried out: the slots stand for what the definitions say is left.
 use Rattle.std.proofs.Common.{◌≡◌, ◌∙◌, ◌+◌, ◌-◌, ◌<◌, ◌≤◌, ◌++◌, ◌⊎◌, ◌∷◌, [], ℕ, zero, suc, Bool, true, false, not, cond, List, Option, Some, None, Result, Ok, Err, length, map, get_or, take, refl, sym, ap, subst, inl, inr, arith, eqb}
-use Rattle.std.specs.Prelude.{slice_get, unwrap_or, MatchOption, nat_eq}
+use Rattle.std.specs.Prelude.{unwrap_or, nat_eq}
 use Rattle.std.specs.Option.{option_map}
-use Rattle.std.specs.List.{list_any, list_all, filter, fold, slice_split, range_with_len}
-use Rattle.std.proofs.lemmas.Bool.{false≢true, true≢false, cases_lt, cases_eq, cases_Bool, not_from_false, eqb-true, eqb-false, cond-true, cond-false, false_from_ne_true}
+use Rattle.std.specs.List.{list_all, fold, slice_split}
+use Rattle.std.proofs.lemmas.Bool.{true≢false, cases_lt, cases_eq, not_from_false, false_from_ne_true}
 use Rattle.std.proofs.lemmas.List.{get_or_append_left, get_or_push, length_push, get_or-take, length-take-le, take-map, length-map, map_push, get_or-map}
 use Rattle.std.proofs.lemmas.Option.{same_Some, none-some}
-use Rattle.dts_parse.specs.StmtData.{ActData, StmtData, Open, Close, Label, Assign, DelProp, DelNode, Omit}
+use Rattle.dts_parse.specs.StmtData.{ActData}
 use Rattle.dts_parse.specs.declared.script.Target.{Target}
 use Rattle.dts_parse.specs.declared.script.Target.TheVariants as target
 use Rattle.dts_tree.specs.declared.spot.Step.{Step}
-use Rattle.dts_tree.specs.declared.spot.Step.TheVariants.{Child, Prop}
-use Rattle.dts_tree.specs.Places.{Place, place_eq, is_within, one_below, place_of}
-use Rattle.dts_tree.specs.Deeds.{Deed, deed, deletes, uncovered}
-use Rattle.dts_tree.specs.Live.{begins, spots, is_there, labelled, last_of, node_of}
-use Rattle.dts_tree.specs.Reading.{Before, live, here, closed, done, done_if_there, done_at, opening, naming, after, read_on}
+use Rattle.dts_tree.specs.declared.spot.Step.TheVariants.{Child}
+use Rattle.dts_tree.specs.Places.{Place, one_below, place_of}
+use Rattle.dts_tree.specs.Deeds.{Deed, deed}
+use Rattle.dts_tree.specs.Live.{begins, is_there, labelled, last_of, node_of}
+use Rattle.dts_tree.specs.Reading.{Before, live, here, closed}
 use Rattle.dts_tree.specs.Inner.Arena.{ArenaData, is_gone, is_alive, child_of, spot, added, removed, root_arena, entered, entered_at, slot_at, entered_slot, last_slot, but_last, down, at_path, at_names}
 use Rattle.dts_tree.specs.Inner.Machine.{EventData, event, LabelsData, ReaderData, no_labels, alive_in, stack_of, stack_at, trimmed_at, labels_after, named_slot, looked_up, here_slot, noted, entering, opened, opened_at, opening_slot, without, without_child, without_at, deleting_slot, noted_child, noted_at, marking_slot, labelling, carried, carried_on}
 use Rattle.dts_tree.proofs.Lists.{Member, all_at, all_from, all_append, and_both, member_of_filter}
-use Rattle.dts_tree.proofs.PlaceLaws.{within_longer, place_self, within_more, within_self}
-use Rattle.dts_tree.proofs.DeedLaws.{outside, uncovered_done, uncovered_deleted}
-use Rattle.dts_tree.proofs.Shape.{IsShaped, IsSound, place_at, parent_at, step_at, there_within, child_stands, child_found}
-use Rattle.dts_tree.proofs.Sweeping.{last_split, last_none, swept, alive_after}
-use Rattle.dts_tree.proofs.SweepTurns.{last_push, but_last_push}
+use Rattle.dts_tree.proofs.Shape.{IsShaped, IsSound, place_at, parent_at, step_at, there_within, child_stands}
+use Rattle.dts_tree.proofs.Sweeping.{last_split, last_none}
+use Rattle.dts_tree.proofs.SweepTurns.{last_push}
 use Rattle.dts_tree.proofs.Trimming.{alive_trimmed, all_trimmed, last_of_map, last_member}
 use Rattle.dts_tree.proofs.Tying.{IsTied, AreNumbered, NoLabel, there_slot, slot_there, none_there, tied_note, tied_label, tied_add, tied_remove, alive_false}
 

@@ -1,5 +1,5 @@
 -- One deed more: what stays uncovered, and what is there then.
-use Rattle.std.proofs.Common.{◌≡◌, ◌∙◌, ◌∷◌, ◌++◌, [], ℕ, Bool, true, false, not, cond, ◌&&◌, ◌||◌, List, Option, Some, None, refl, sym, ap, subst, arith}
+use Rattle.std.proofs.Common.{◌≡◌, ◌∙◌, ◌∷◌, ◌++◌, [], Bool, true, false, not, cond, ◌&&◌, ◌||◌, List, Some, None, refl, sym, ap}
 use Rattle.std.specs.List.{list_any, filter, filter_map, fold, cons_option}
 use Rattle.std.proofs.lemmas.Bool.{false≢true}
 use Rattle.std.proofs.lemmas.List.Folds.{list_any-append}
@@ -8,7 +8,7 @@ use Rattle.std.proofs.lemmas.List.Elements.{filter_map-append}
 use Rattle.std.proofs.lemmas.List.{append-nil}
 use Rattle.dts_tree.specs.Places.{Place, place_eq, is_within}
 use Rattle.dts_tree.specs.Deeds.{Deed, covers, deletes, uncovered}
-use Rattle.dts_tree.specs.Live.{with_new, begins, begun, spots, labelled, labelled_in, last_of}
+use Rattle.dts_tree.specs.Live.{with_new, begins, begun, spots}
 use Rattle.dts_tree.proofs.Lists.{kept}
 use Rattle.dts_tree.proofs.PlaceLaws.{same_place}
 

@@ -1,28 +1,28 @@
 -- Statements that are carried out one after another follow the definitions.
-use Rattle.std.proofs.Common.{◌≡◌, ◌∙◌, ◌+◌, ◌-◌, ◌<◌, ◌≤◌, ◌++◌, ◌⊎◌, ◌∷◌, [], ℕ, zero, suc, Bool, true, false, not, cond, List, Option, Some, None, Result, Ok, Err, length, map, get_or, take, refl, sym, ap, subst, inl, inr, arith, eqb}
-use Rattle.std.specs.Prelude.{unwrap_or, nat_eq}
-use Rattle.std.specs.List.{list_any, list_all, filter, filter_map, fold, range_with_len}
-use Rattle.std.proofs.lemmas.Bool.{false≢true, true≢false, cases_eq, cases_Bool, not_from_false, not_from_true, eqb-true, eqb-false, false_from_ne_true}
+use Rattle.std.proofs.Common.{◌≡◌, ◌∙◌, ◌+◌, ◌<◌, ◌≤◌, ◌++◌, ◌∷◌, [], ℕ, zero, suc, Bool, true, false, not, cond, List, Option, Some, None, Result, Ok, Err, length, refl, sym, ap, subst, arith, eqb}
+use Rattle.std.specs.Prelude.{unwrap_or}
+use Rattle.std.specs.List.{filter}
+use Rattle.std.proofs.lemmas.Bool.{true≢false, not_from_false, eqb-true, eqb-false, false_from_ne_true}
 use Rattle.std.proofs.lemmas.List.{length_push}
-use Rattle.std.proofs.lemmas.Option.{same_Some, none-some}
+use Rattle.std.proofs.lemmas.Option.{none-some}
 use Rattle.dts_parse.specs.StmtData.{ActData, StmtData, Open, Close, Label, Assign, DelProp, DelNode, Omit}
 use Rattle.dts_parse.specs.declared.script.Target.{Target}
 use Rattle.dts_parse.specs.declared.script.Target.TheVariants as target
 use Rattle.dts_tree.specs.declared.spot.Step.{Step}
 use Rattle.dts_tree.specs.declared.spot.Step.TheVariants.{Child, Prop}
-use Rattle.dts_tree.specs.Places.{Place, place_eq, is_within}
+use Rattle.dts_tree.specs.Places.{Place, is_within}
 use Rattle.dts_tree.specs.Deeds.{Deed, deed, deletes, uncovered}
-use Rattle.dts_tree.specs.Live.{begins, spots, is_there, labelled, node_of}
+use Rattle.dts_tree.specs.Live.{begins, is_there, node_of}
 use Rattle.dts_tree.specs.Reading.{Before, live, here, closed, done, done_if_there, done_at, opening, naming, after, read_on, read_all, Unnamed}
 use Rattle.dts_tree.specs.Inner.Arena.{ArenaData, is_gone, is_alive, child_of, removed, root_arena, entered, entered_slot, last_slot}
 use Rattle.dts_tree.specs.Inner.Machine.{EventData, event, LabelsData, ReaderData, no_labels, named_slot, looked_up, here_slot, noted, entering, opened, opened_at, opening_slot, without, without_child, without_at, deleting_slot, noted_child, noted_at, marking_slot, labelling, carried, carried_on, carried_all}
 use Rattle.dts_tree.proofs.Lists.{Member, all_at, all_from, member_in_map}
-use Rattle.dts_tree.proofs.PlaceLaws.{within_longer, place_self, within_more, within_self}
+use Rattle.dts_tree.proofs.PlaceLaws.{within_longer, within_more}
 use Rattle.dts_tree.proofs.DeedLaws.{outside, uncovered_done, uncovered_deleted}
 use Rattle.dts_tree.proofs.Shape.{IsShaped, IsSound, place_at, there_within, child_stands}
 use Rattle.dts_tree.proofs.Sweeping.{swept, alive_after}
-use Rattle.dts_tree.proofs.Tying.{IsTied, AreNumbered, NoLabel, there_slot, slot_there, none_there, tied_note, tied_label, tied_remove, alive_false}
-use Rattle.dts_tree.proofs.Carrying.{IsOpen, IsStanding, here_is, chain_short, open_none, open_one, open_closed, open_kept, open_push, HasEntered, Entered, tied_enter, Names, named_is, looked_up_tied, looked_up_arena}
+use Rattle.dts_tree.proofs.Tying.{IsTied, NoLabel, slot_there, none_there, tied_note, tied_label, tied_remove}
+use Rattle.dts_tree.proofs.Carrying.{IsOpen, IsStanding, here_is, chain_short, open_none, open_one, open_closed, open_kept, open_push, Entered, tied_enter, Names, named_is, looked_up_tied, looked_up_arena}
 
 abbrev pub Follows : Result ReaderData ℕ → Result Before ℕ → Type 0
 Follows (Ok r) (Ok b) = IsStanding r b

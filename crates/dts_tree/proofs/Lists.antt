@@ -1,8 +1,8 @@
 -- Lists: members, filters and what is picked.
-use Rattle.std.proofs.Common.{◌≡◌, ◌∙◌, ◌+◌, ◌-◌, ◌<◌, ◌≤◌, ◌++◌, ◌⊎◌, ◌∷◌, [], ℕ, zero, suc, Bool, true, false, not, cond, ◌&&◌, ◌||◌, List, Option, Some, None, length, map, get_or, take, drop, refl, sym, ap, subst, inl, inr, arith, rules, eqb}
-use Rattle.std.specs.List.{list_any, list_all, filter, filter_map, range_with_len, fold, cons_option}
+use Rattle.std.proofs.Common.{◌≡◌, ◌∙◌, ◌+◌, ◌<◌, ◌≤◌, ◌++◌, ◌⊎◌, ◌∷◌, [], ℕ, zero, suc, Bool, true, false, not, cond, ◌&&◌, ◌||◌, List, Option, Some, None, map, refl, sym, ap, subst, inl, inr, arith, eqb}
+use Rattle.std.specs.List.{list_any, list_all, filter, filter_map, range_with_len, cons_option}
 use Rattle.std.proofs.lemmas.Bool.{false≢true}
-use Rattle.std.proofs.lemmas.List.{map-append, append_assoc, append-nil}
+use Rattle.std.proofs.lemmas.List.{append-nil}
 use Rattle.std.proofs.lemmas.List.Elements.{filter-append}
 
 pub and_parts : (a b : Bool) → (a && b) ≡ true → (a ≡ true) × (b ≡ true)

@@ -14,7 +14,7 @@ tells_ok files (Ok q) (Ok b) r f h = refl
 tells_ok files (Ok q) (Err y) r f h = absurd f
 tells_ok files (Err x) y r f h = cc
 
-err_by : (files : List (List ℕ)) (x : Result ReaderData Unnamed) (y : Result Before Unnamed) (g : Fault) → FollowsAll x y
+pub err_by : (files : List (List ℕ)) (x : Result ReaderData Unnamed) (y : Result Before Unnamed) (g : Fault) → FollowsAll x y
     → or_fault files x ≡ Err g → or_fault files y ≡ Err g
 err_by files (Ok q) y g f h = cc
 err_by files (Err x) (Ok b) g f h = absurd f

@@ -1,16 +1,14 @@
 -- What the slots keep, and where each stands.
-use Rattle.std.proofs.Common.{◌≡◌, ◌∙◌, ◌+◌, ◌-◌, ◌<◌, ◌≤◌, ◌++◌, ◌⊎◌, ◌∷◌, [], ℕ, zero, suc, Bool, true, false, not, cond, List, Option, Some, None, length, map, get_or, set, take, drop, refl, sym, ap, subst, inl, inr, arith}
-use Rattle.std.specs.Prelude.{slice_get, slice_index_or}
-use Rattle.std.proofs.lemmas.Bool.{false≢true, true≢false, cases_lt, cases_eq, cases_order}
-use Rattle.std.proofs.lemmas.List.{get_or_append_left, get_or_push, get_or-set_same, get_or-set_other, get_or_past, length-set, length-append, length_push, set_past}
-use Rattle.std.proofs.lemmas.Option.{same_Some, slice_get_cases, slice_get-get_or, none-some}
+use Rattle.std.proofs.Common.{◌≡◌, ◌∙◌, ◌<◌, ◌∷◌, [], ℕ, zero, suc, Bool, true, false, cond, List, Option, Some, None, length, get_or, refl, sym, ap, subst, inl, inr, arith}
+use Rattle.std.proofs.lemmas.Bool.{true≢false, cases_lt, cases_eq}
+use Rattle.std.proofs.lemmas.List.{get_or_past}
+use Rattle.std.proofs.lemmas.Option.{same_Some, slice_get-get_or, none-some}
 use Rattle.dts_tree.specs.declared.spot.Step.{Step}
-use Rattle.dts_tree.specs.declared.spot.Step.TheVariants.{Child, Prop}
+use Rattle.dts_tree.specs.declared.spot.Step.TheVariants.{Child}
 use Rattle.dts_tree.specs.declared.spot.Spot.{Spot}
-use Rattle.dts_tree.specs.Places.{Place, step_eq, place_eq, is_within}
-use Rattle.dts_tree.specs.Inner.Arena.{ArenaData, LeadsData, is_gone, is_alive, there, lead_of, with_lead, no_leads, child_of, spot, pushed, leading, grown, added, root_arena}
-use Rattle.dts_tree.proofs.Lists.{Member, member_left, member_right, member_cases}
-use Rattle.dts_tree.proofs.NameLaws.{named_same, named_other}
+use Rattle.dts_tree.specs.Places.{Place}
+use Rattle.dts_tree.specs.Inner.Arena.{ArenaData, is_gone, there, lead_of, no_leads, child_of, spot}
+use Rattle.dts_tree.proofs.Lists.{Member}
 
 abbrev pub spot_at : List Spot → ℕ → Spot
 spot_at spots i = get_or spots i (spot (Child []) 0)

@@ -1,12 +1,11 @@
 -- Taking a slot away: all that stands at or below its place is gone then, and nothing else.
-use Rattle.std.proofs.Common.{◌≡◌, ◌∙◌, ◌+◌, ◌-◌, ◌<◌, ◌≤◌, ◌++◌, ◌⊎◌, ◌∷◌, [], ℕ, zero, suc, Bool, true, false, not, cond, ◌&&◌, ◌||◌, List, Option, Some, None, length, get_or, set, take, drop, refl, sym, ap, subst, inl, inr, arith}
-use Rattle.std.specs.Prelude.{slice_get}
+use Rattle.std.proofs.Common.{◌≡◌, ◌∙◌, ◌+◌, ◌-◌, ◌<◌, ◌≤◌, ◌++◌, ◌⊎◌, ◌∷◌, [], ℕ, zero, suc, Bool, true, false, not, ◌&&◌, List, Option, Some, None, length, get_or, set, drop, refl, sym, ap, subst, inl, inr, arith}
 use Rattle.std.specs.List.{sum_by}
-use Rattle.std.proofs.lemmas.Bool.{false≢true, true≢false, cases_lt, cases_eq, cases_Bool, true_from_ne_false}
+use Rattle.std.proofs.lemmas.Bool.{false≢true, true≢false, cases_lt, cases_eq, cases_Bool}
 use Rattle.std.proofs.lemmas.List.{get_or-set_same, get_or-set_other, get_or_past, length-set, length-append, set_past, take-append-drop, drop_more, drop_all, nil_from_length}
 use Rattle.std.proofs.lemmas.List.Sums.{sum_by-set}
 use Rattle.std.proofs.lemmas.Option.{same_Some, slice_get-get_or, slice_get_past, none-some}
-use Rattle.dts_tree.specs.Places.{Place, place_eq, is_within}
+use Rattle.dts_tree.specs.Places.{Place, is_within}
 use Rattle.dts_tree.specs.Inner.Arena.{ArenaData, is_gone, is_alive, last_slot, but_last, left_at, sweep, work, removed}
 use Rattle.dts_tree.proofs.Lists.{Member, member_left, member_right, member_cases}
 use Rattle.dts_tree.proofs.PlaceLaws.{within_self, within_more, within_cases}

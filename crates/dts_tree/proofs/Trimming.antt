@@ -1,8 +1,8 @@
 -- Stacks without what is gone at their ends.
-use Rattle.std.proofs.Common.{◌≡◌, ◌∙◌, ◌++◌, ◌⊎◌, inl, inr, ◌∷◌, [], ℕ, Bool, true, false, not, cond, ◌&&◌, ◌||◌, List, Option, Some, None, map, refl, sym, ap, subst}
+use Rattle.std.proofs.Common.{◌≡◌, ◌∙◌, ◌++◌, inl, inr, ◌∷◌, [], ℕ, Bool, true, false, not, cond, ◌||◌, List, Option, Some, None, map, refl, sym, ap}
 use Rattle.std.specs.Option.{option_map}
-use Rattle.std.specs.List.{list_any, list_all, filter, fold}
-use Rattle.std.proofs.lemmas.Bool.{false≢true, true≢false, cases_Bool, or_parts, not_from_true, not_from_false}
+use Rattle.std.specs.List.{list_any, list_all, fold}
+use Rattle.std.proofs.lemmas.Bool.{or_parts, not_from_true, not_from_false}
 use Rattle.std.proofs.lemmas.List.Folds.{list_any-append}
 use Rattle.std.proofs.lemmas.List.Sums.{fold-append}
 use Rattle.std.proofs.lemmas.Option.{same_Some, none-some}

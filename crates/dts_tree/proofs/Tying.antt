@@ -1,24 +1,23 @@
 -- How the slots stand for the tree of the deeds, and what each deed leaves of it.
-use Rattle.std.proofs.Common.{◌≡◌, ◌∙◌, ◌+◌, ◌-◌, ◌<◌, ◌≤◌, ◌++◌, ◌⊎◌, ◌∷◌, [], ℕ, zero, suc, Bool, true, false, not, cond, ◌&&◌, List, Option, Some, None, length, map, get_or, set, refl, sym, ap, subst, inl, inr, arith, ltb}
+use Rattle.std.proofs.Common.{◌≡◌, ◌∙◌, ◌+◌, ◌<◌, ◌++◌, ◌⊎◌, ◌∷◌, [], ℕ, Bool, true, false, not, cond, ◌&&◌, List, Option, Some, None, length, map, get_or, refl, sym, ap, subst, inl, inr, arith, ltb}
 use Rattle.std.specs.List.{list_any, list_all, filter, filter_map, range_with_len, cons_option}
 use Rattle.std.specs.Map.{lookup}
-use Rattle.std.proofs.lemmas.Bool.{false≢true, true≢false, cases_lt, cases_eq, cases_Bool, lt-ltb, ltb-true, not_from_false, not_from_true, false_from_ne_true, cond-true, cond-false}
-use Rattle.std.proofs.lemmas.List.{get_or_append_left, get_or_push, get_or-set_same, get_or-set_other, get_or_past, length-set, length_push, map-append, append-nil}
+use Rattle.std.proofs.lemmas.Bool.{true≢false, cases_Bool, lt-ltb, ltb-true, not_from_false, false_from_ne_true, cond-true, cond-false}
+use Rattle.std.proofs.lemmas.List.{get_or_append_left, get_or_push, get_or-set_same, get_or-set_other, length-set, length_push, map-append, append-nil}
 use Rattle.std.proofs.lemmas.List.Elements.{filter_map-append}
 use Rattle.std.proofs.lemmas.Option.{same_Some, none-some}
 use Rattle.dts_parse.specs.StmtData.{ActData, Open, Close, Label, Assign, DelProp, DelNode, Omit}
 use Rattle.dts_tree.specs.declared.spot.Step.{Step}
-use Rattle.dts_tree.specs.declared.spot.Spot.{Spot}
 use Rattle.dts_tree.specs.Places.{Place, place_eq, is_within}
-use Rattle.dts_tree.specs.Deeds.{Deed, deed, deletes, uncovered}
-use Rattle.dts_tree.specs.Live.{with_new, begins, begun, spots, is_there, labelled, labelled_in}
-use Rattle.dts_tree.specs.Inner.Arena.{ArenaData, is_gone, is_alive, child_of, spot, added, removed, root_arena, named, with_name, pushed}
-use Rattle.dts_tree.specs.Inner.Machine.{EventData, event, LabelsData, with_label, put_at, alive_in, stack_of, stack_at, trimmed, trimmed_at, labels_after, no_labels}
+use Rattle.dts_tree.specs.Deeds.{Deed, deed}
+use Rattle.dts_tree.specs.Live.{begins, spots, is_there, labelled, labelled_in}
+use Rattle.dts_tree.specs.Inner.Arena.{ArenaData, is_gone, is_alive, child_of, spot, added, removed, named, with_name}
+use Rattle.dts_tree.specs.Inner.Machine.{EventData, event, LabelsData, with_label, put_at, alive_in, stack_of, stack_at}
 use Rattle.dts_tree.proofs.Lists.{Member, any_find, any_give, all_at, all_from, all_append, not_true, member_of_filter, member_in_filter, member_in_map, member_of_map, member_in_range, member_of_range, range_more, filter_push, filter_drop, filter_shown, filter_alike, kept}
 use Rattle.dts_tree.proofs.PlaceLaws.{same_place, place_is, same_bytes, bytes_self}
 use Rattle.dts_tree.proofs.NameLaws.{named_same, named_other}
 use Rattle.dts_tree.proofs.DeedLaws.{outside, spots_begun, spots_other, spots_kept}
-use Rattle.dts_tree.proofs.Shape.{IsShaped, IsSound, place_at, parent_at, step_at, there_within, apart, child_found}
+use Rattle.dts_tree.proofs.Shape.{IsShaped, IsSound, place_at, there_within, child_found}
 use Rattle.dts_tree.proofs.Adding.{shaped_more, sound_more}
 use Rattle.dts_tree.proofs.Sweeping.{alive_after, sound_after, swept}
 

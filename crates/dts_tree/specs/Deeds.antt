@@ -1,5 +1,5 @@
 -- Deeds: what statements do, each with the place that it speaks of, and which of them a later deletion covers.
-use Rattle.std.specs.Prelude.{ℕ, Bool, true, false, ◌&&◌, ◌||◌, List, [], ◌∷◌, if◌then◌else◌}
+use Rattle.std.specs.Prelude.{Bool, true, false, ◌&&◌, ◌||◌, List, [], ◌∷◌, if◌then◌else◌}
 use Rattle.std.specs.List.{list_any}
 use Rattle.dts_parse.specs.StmtData.{ActData, Open, Close, Label, Assign, DelProp, DelNode, Omit}
 use Rattle.dts_tree.specs.Places.{Place, is_within}

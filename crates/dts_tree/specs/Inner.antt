@@ -1,3 +1,11 @@
--- Definitions that only the code's own states need: no promise is made of them.
 pub mod Arena
+pub mod DraftForm
+pub mod DraftRules
+pub mod Finding
+pub mod Giving
+pub mod Grown
+pub mod Left
 pub mod Machine
+pub mod Naming
+pub mod Nodes
+pub mod Slots

@@ -1,7 +1,13 @@
 pub mod Deeds
+pub mod Drafts
 pub mod Ends
+pub mod Final
 pub mod Inner
+pub mod Limits
 pub mod Live
+pub mod Outcome
 pub mod Places
 pub mod Reading
 pub mod References
+pub mod Rules
+pub mod Whole

@@ -1,5 +1,5 @@
 -- What statements do one after another, and the first reference of a statement that names no node.
-use Rattle.std.specs.Prelude.{ℕ, ◌+◌, Bool, true, false, List, [], ◌∷◌, ◌++◌, Option, Some, None, Result, Ok, Err, ◌-◌, length, slice_get, take, unwrap_or, if◌then◌else◌}
+use Rattle.std.specs.Prelude.{ℕ, ◌+◌, List, [], ◌∷◌, ◌++◌, Option, Some, None, Result, Ok, Err, ◌-◌, length, slice_get, take, unwrap_or, if◌then◌else◌}
 use Rattle.dts_parse.specs.StmtData.{ActData, StmtData, Open, Close, Label, Assign, DelProp, DelNode, Omit}
 use Rattle.dts_parse.specs.declared.script.Target.{Target}
 use Rattle.dts_parse.specs.declared.script.Target.TheVariants as target

@@ -27,6 +27,12 @@ Tells wanted (Ok x) = IsOk wanted
 Tells wanted (Err (ending.Fault f)) = wanted ≡ Err f
 Tells wanted (Err (ending.Memory e)) = ⊤
 
+-- the answer, seen so, is what is wanted, or memory was
+abbrev pub AnswersAs : {X T : Type 0} → Result T End → (T → X) → Result X Fault → Type 0
+AnswersAs (Ok x) seen wanted = wanted ≡ Ok (seen x)
+AnswersAs (Err (ending.Fault f)) seen wanted = wanted ≡ Err f
+AnswersAs (Err (ending.Memory e)) seen wanted = ⊤
+
 -- the end of a call is this fault, or want of memory
 abbrev pub IsFault : Fault → End → Type 0
 IsFault wanted (ending.Fault f) = wanted ≡ f

@@ -49,8 +49,15 @@ impl Labels {
         }
     }
 
-    // The label's number, if it has one.
-    fn number(&self, label: &Text) -> Option<usize>
+    /// By number the slots that a label was put on.
+    pub(crate) fn stacks(&self) -> &[Slots]
+        ensures { result.now ≡ self.now.stacks }
+    {
+        self.stacks.as_slice()
+    }
+
+    /// The label's number, if it has one.
+    pub(crate) fn number(&self, label: &Text) -> Option<usize>
         ensures { result ≡ named label.now self.now.numbers }
     {
         self.numbers.get(label).copied()

@@ -1,7 +1,9 @@
 //! Steps from a node to what stands in it, and where they lead.
 
-ghost use Rattle.std.specs.Prelude.{◌≡◌, OnOk};
+ghost use Rattle.std.specs.Prelude.{◌≡◌, OnOk, true, false};
 ghost use Rattle.dts_tree.specs.Inner.Arena.{named, lead_of, with_lead, no_leads};
+ghost use Rattle.dts_tree.specs.Places.{step_name};
+ghost use Rattle.dts_tree.specs.Inner.Slots.{is_node};
 
 use edt_base::Text;
 use std::alloc::{AllocError, Global};
@@ -23,6 +25,17 @@ pub enum Step {
 pub struct Spot {
     pub(crate) step: Step,
     pub(crate) parent: usize,
+}
+
+impl Step {
+    /// The name of what it leads to.
+    pub(crate) fn name(&self) -> &Text
+        ensures { result.now ≡ step_name self.now }
+    {
+        match self {
+            Step::Child(name) | Step::Prop(name) => name,
+        }
+    }
 }
 
 /// The slots to which the steps from a node last led.
@@ -78,5 +91,17 @@ impl Leads {
             }
         }
         Ok(())
+    }
+}
+
+impl Spot {
+    /// Whether it is a node.
+    pub(crate) fn is_child(&self) -> bool
+        ensures { result ≡ is_node self.now }
+    {
+        match &self.step {
+            Step::Child(_) => true,
+            Step::Prop(_) => false,
+        }
     }
 }

@@ -1,5 +1,5 @@
 -- How the code keeps nodes and properties: a list of slots, each with what stands in it. No part of what is promised.
-use Rattle.std.specs.Prelude.{ℕ, zero, suc, ◌+◌, ◌-◌, Bool, true, false, not, List, [], ◌∷◌, ◌++◌, Option, Some, None, length, fold, sum_by, slice_get, slice_index_or, slice_set, take, nat_eq, unwrap_or, if◌then◌else◌}
+use Rattle.std.specs.Prelude.{ℕ, zero, suc, ◌+◌, ◌-◌, Bool, true, false, not, List, [], ◌∷◌, ◌++◌, Option, Some, None, length, fold, sum_by, slice_get, slice_index_or, slice_set, take, nat_eq, if◌then◌else◌}
 use Rattle.std.specs.Option.{option_and_then}
 use Rattle.std.specs.List.{slice_split}
 use Rattle.std.specs.Map.{lookup}

@@ -1,6 +1,5 @@
 -- How the code carries statements out. No part of what is promised.
-use Rattle.std.specs.Prelude.{ℕ, ◌+◌, ◌-◌, Bool, true, false, not, List, [], ◌∷◌, ◌++◌, Option, Some, None, Result, Ok, Err, length, filter, slice_get, slice_index_or, slice_set, nat_eq, take, unwrap_or, ⊤, ◌≡◌, if◌then◌else◌}
-use Rattle.std.specs.Option.{option_and_then}
+use Rattle.std.specs.Prelude.{ℕ, ◌+◌, Bool, List, [], ◌∷◌, ◌++◌, Option, Some, None, Result, Ok, Err, length, filter, slice_index_or, slice_set, nat_eq, unwrap_or, ⊤, ◌≡◌, if◌then◌else◌}
 use Rattle.std.specs.List.{list_any}
 use Rattle.dts_parse.specs.StmtData.{ActData, StmtData, Open, Close, Label, Assign, DelProp, DelNode, Omit}
 use Rattle.dts_parse.specs.declared.script.Target.{Target}

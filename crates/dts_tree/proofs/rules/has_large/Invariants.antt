@@ -1,0 +1,6 @@
+use Rattle.std.proofs.Common.{◌≡◌, ◌+◌, ◌-◌, ◌^◌, [], map, drop, take, min, find, fold, sum_by, nat_lt}
+use Rattle.dts_tree.specs.Inner.Grown.{len_at, most, size_from, has_large, value_at, shared_from, any_seen, wants, wanted_parts, wanted_by, wanted_from, below_in}
+use Rattle.dts_tree.proofs.rules.has_large.Given as goal
+
+abbrev pub invariant-loop-prop : goal.invariant-loop-prop
+invariant-loop-prop l = has_large l.finder l.grown l.lens (drop l.prop-index l.props) ≡ has_large l.finder l.grown l.lens l.props
