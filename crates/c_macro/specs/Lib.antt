@@ -9,6 +9,7 @@ pub mod MacroData
 pub mod Marked
 pub mod Marking
 pub mod Needing
+pub mod NumberData
 pub mod Pending
 pub mod Placing
 pub mod Reading
