@@ -16,15 +16,11 @@ mod part;
 mod pend;
 mod place;
 mod places;
-#[cfg(test)]
-mod plain;
 mod ready;
 mod row;
 mod same;
 mod sets;
 mod strings;
-#[cfg(test)]
-mod tests;
 mod text;
 mod tokens;
 mod turn;

@@ -6,8 +6,6 @@ mod join;
 mod laws;
 mod lex;
 mod lines;
-#[cfg(test)]
-mod tests;
 mod tok;
 mod writing;
 
