@@ -19,3 +19,8 @@ pub mod RunLaws
 pub mod RowLaws
 pub mod TakeLaws
 pub mod NeedLaws
+pub mod MoveLaws
+pub mod FollowLaws
+pub mod CallLaws
+pub mod GlueLaws
+pub mod BarLaws

@@ -28,4 +28,7 @@ mod turn;
 pub use def::Def;
 pub use defs::Defs;
 pub use expansion::expand;
-pub use laws::every_text_has_one_outcome;
+pub use laws::{
+    an_expansion_costs_the_same_everywhere, an_expansion_may_be_followed, calls_are_taken,
+    every_text_has_one_outcome, idle_tokens_stay, other_bars_are_idle, words_are_joined,
+};
