@@ -133,7 +133,7 @@ module _ (d : Macros) where
   variable_known n xss =
       ap (λ m. if nat_eq m (suc n) then Some (fss xss) else if nat_eq m n then Some (fss xss ++ [] ∷ []) else None) (map_length (map (known_mark d)) xss)
       ∙ if_args (nat_eq (length xss) (suc n)) xss _ _
-        (ap (λ yss. if nat_eq (length xss) n then Some yss else None) (sym (map_append (map (known_mark d)) xss ([] ∷ []))) ∙ if_args (nat_eq (length xss) n) (xss ++ [] ∷ []) None None refl)
+      (ap (λ yss. if nat_eq (length xss) n then Some yss else None) (sym (map_append (map (known_mark d)) xss ([] ∷ []))) ∙ if_args (nat_eq (length xss) n) (xss ++ [] ∷ []) None None refl)
 
   fitted_known : (names : List (List ℕ)) (variadic : Bool) (xss : List (List Marked)) → fitted names variadic (fss xss) ≡ of_args (fitted names variadic xss)
   fitted_known names true xss = variable_known (length names) xss

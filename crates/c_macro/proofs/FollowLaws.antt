@@ -109,9 +109,11 @@ call_goes_on t m names (u ∷ us) = by (is_punct (codes "(") u.tok)
     fitted_goes_on : (c : Closed) (o : Option (List (List Marked))) → is_end (look_fitted t m names c o) ≡ false
     fitted_goes_on c None = refl
     fitted_goes_on c (Some raws) = refl
+
     closed_goes_on : (o : Option Closed) → is_end (look_closed t m names o) ≡ false
     closed_goes_on None = refl
     closed_goes_on (Some c) = fitted_goes_on c (fitted names m.variadic c.args)
+
     by : (b : Bool) → is_end (if b then look_closed t m names (closed (commas_of names m.variadic) 0 us) else Put t (u ∷ us)) ≡ false
     by true = closed_goes_on (closed (commas_of names m.variadic) 0 us)
     by false = refl
