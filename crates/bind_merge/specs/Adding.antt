@@ -19,15 +19,19 @@ filter_below (f ∷ fs) = fs
 -- a level comes to those that are there: behind the last, or joined with the one at its place
 pub data AddsAt : List LevelTable → ℕ → LevelTable → List LevelTable → Type 0 where
   behind : (l : LevelTable) → AddsAt [] 0 l (l ∷ [])
-  onto : (a : LevelTable) (rest : List LevelTable) (l j : LevelTable) → JoinsLevel a l j → AddsAt (a ∷ rest) 0 l (j ∷ rest)
-  below : (a : LevelTable) (rest : List LevelTable) (n : ℕ) (l : LevelTable) (js : List LevelTable) → AddsAt rest n l js → AddsAt (a ∷ rest) (suc n) l (a ∷ js)
+  onto : (a : LevelTable) (rest : List LevelTable) (l j : LevelTable) → JoinsLevel a l j
+      → AddsAt (a ∷ rest) 0 l (j ∷ rest)
+  below : (a : LevelTable) (rest : List LevelTable) (n : ℕ) (l : LevelTable) (js : List LevelTable)
+      → AddsAt rest n l js → AddsAt (a ∷ rest) (suc n) l (a ∷ js)
 
 -- the levels of an included file come to those that are there, the first of them at level n, as far
 -- as the filter lets them through
 pub data AddsFrom : List LevelTable → ℕ → List LevelTable → List FilterLevel → List LevelTable → Type 0 where
   no_more : (rest : List LevelTable) (n : ℕ) (filter : List FilterLevel) → AddsFrom rest n [] filter rest
-  one_more : (rest : List LevelTable) (n : ℕ) (l : LevelTable) (ls : List LevelTable) (filter : List FilterLevel) (bs cs : List LevelTable)
-      → AddsAt rest n (passed (top_filter filter) l) bs → AddsFrom bs (suc n) ls (filter_below filter) cs → AddsFrom rest n (l ∷ ls) filter cs
+  one_more : (rest : List LevelTable) (n : ℕ) (l : LevelTable) (ls : List LevelTable) (filter : List FilterLevel)
+      (bs cs : List LevelTable)
+      → AddsAt rest n (passed (top_filter filter) l) bs → AddsFrom bs (suc n) ls (filter_below filter) cs
+      → AddsFrom rest n (l ∷ ls) filter cs
 
 -- a fact that an included file, the first level of which comes to level k, brings to level n
 pub record Brought (k : ℕ) (ls : List LevelTable) (fs : List FilterLevel) (n : ℕ) (f : Fact) : Type 0 where

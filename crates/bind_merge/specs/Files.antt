@@ -24,7 +24,8 @@ base_name name = base_from name name
 -- the numbers of the files of this base name, in order, the first file having the number k
 abbrev pub named_from : ℕ → List FileData → List ℕ → List ℕ
 named_from k [] name = []
-named_from k (f ∷ fs) name = if bytes_eq (base_name f.name) name then k ∷ named_from (k + 1) fs name else named_from (k + 1) fs name
+named_from k (f ∷ fs) name =
+    if bytes_eq (base_name f.name) name then k ∷ named_from (k + 1) fs name else named_from (k + 1) fs name
 
 abbrev pub named_files : List FileData → List ℕ → List ℕ
 named_files files name = named_from 0 files name

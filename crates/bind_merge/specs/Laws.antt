@@ -23,7 +23,9 @@ WalksOnce = (d : ℕ) (files : List FileData) (k : ℕ) → (is_clean files d k 
 -- So a file that is met again, where it fits in the depth that is left, is without fault whatever the
 -- way on which one came, no file of which fits.
 abbrev pub MetAgain : Type 0
-MetAgain = (d : ℕ) (files : List FileData) (path : List ℕ) (k : ℕ) → is_clean files d k ≡ true → NoneClean files d path → walk d files path k ≡ None
+MetAgain =
+    (d : ℕ) (files : List FileData) (path : List ℕ) (k : ℕ) → is_clean files d k ≡ true → NoneClean files d path
+    → walk d files path k ≡ None
 
 -- The levels of a file's own record with the merged levels of the files that it includes, each taken
 -- once and in order, are its merged binding, and neither it nor what it includes is in conflict.
@@ -31,5 +33,6 @@ abbrev pub MergesOnce : Type 0
 MergesOnce = (files : List FileData) (tables : ℕ → Option (List LevelTable))
     → ((t : ℕ) (ls : List LevelTable) → tables t ≡ Some ls → IsMerged files t ls × (HasConflict files t → ⊥))
     → (k : ℕ) (levels : List LevelData) → record_at files k ≡ Some (Ok levels)
-    → (own united : List LevelTable) → AreTablesOf (map own_level levels) own → Unites files tables own (includes_from 0 levels) united
+    → (own united : List LevelTable) → AreTablesOf (map own_level levels) own
+    → Unites files tables own (includes_from 0 levels) united
     → IsMerged files k united × (HasConflict files k → ⊥)

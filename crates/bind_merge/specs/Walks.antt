@@ -31,11 +31,14 @@ follow rest (t ∷ ts) = rest t
 abbrev pub record_walk : List FileData → Bool → (ℕ → Option Fault) → List ℕ → List ℕ → List LevelData → Option Fault
 record_walk files deep rest path name levels =
     let includes = includes_from 0 levels in
-    or_else (fault_if (list_any (λ (e : ℕ × IncludeData). is_several (named_files files e.1.name)) includes) (file_fault rule.B14 name))
-    (or_else (fault_if (list_any (λ (e : ℕ × IncludeData). is_barred deep path (named_files files e.1.name)) includes) (file_fault rule.B9 name))
+    or_else (fault_if (list_any (λ (e : ℕ × IncludeData). is_several (named_files files e.1.name)) includes)
+    (file_fault rule.B14 name))
+    (or_else (fault_if (list_any (λ (e : ℕ × IncludeData). is_barred deep path (named_files files e.1.name)) includes)
+    (file_fault rule.B9 name))
     (first_some (λ (e : ℕ × IncludeData). follow rest (named_files files e.1.name)) includes))
 
-abbrev pub file_walk : List FileData → Bool → (ℕ → Option Fault) → List ℕ → List ℕ → Option (Result (List LevelData) Fault) → Option Fault
+abbrev pub file_walk : List FileData → Bool → (ℕ → Option Fault) → List ℕ → List ℕ
+    → Option (Result (List LevelData) Fault) → Option Fault
 file_walk files deep rest path name None = None
 file_walk files deep rest path name (Some (Err f)) = Some f
 file_walk files deep rest path name (Some (Ok levels)) = record_walk files deep rest path name levels
@@ -43,7 +46,8 @@ file_walk files deep rest path name (Some (Ok levels)) = record_walk files deep 
 -- the first fault of file k and its includes, where at most d of them may follow below one another
 abbrev pub walk : ℕ → List FileData → List ℕ → ℕ → Option Fault
 walk zero files path k = file_walk files true (λ t. None) (k ∷ path) (name_of files k) (record_at files k)
-walk (suc d) files path k = file_walk files false (walk d files (k ∷ path)) (k ∷ path) (name_of files k) (record_at files k)
+walk (suc d) files path k =
+    file_walk files false (walk d files (k ∷ path)) (k ∷ path) (name_of files k) (record_at files k)
 
 -- the first fault of a binding's walk: 16 includes may follow below one another
 unfoldable pub binding_walk : List FileData → ℕ → Option Fault

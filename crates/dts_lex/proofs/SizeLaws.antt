@@ -9,7 +9,7 @@ use Rattle.edt_base.specs.SourceBytes.{is_hex, is_octal, is_plain, begins_label}
 use Rattle.dts_lex.specs.Between.{gap, enter}
 use Rattle.dts_lex.specs.declared.between.Between.{Between}
 use Rattle.dts_lex.specs.Names.{is_path}
-use Rattle.dts_lex.specs.Tokens.{stands, word, pair, at_pair, text, quoted, escapes, char, char_size, at_quote, escape, reference, path_reference, is_no_brace, mark, sized, sign, at_double, is_double, is_outer_sign, is_operator, directive_in, directives, in_rounds, is_narrow, is_word_byte, at_word, at_colon, found}
+use Rattle.dts_lex.specs.Tokens.{stands, word, pair, at_pair, text, quoted, escapes, char, char_size, at_quote, escape, reference, path_reference, is_no_brace, mark, sized, punctuator, at_double, is_double, is_outer_punctuator, is_operator, directive_in, directives, in_rounds, is_narrow, is_word_byte, at_word, at_colon, found}
 use Rattle.dts_lex.specs.declared.opened.Opened.{Opened}
 use Rattle.dts_lex.specs.declared.token.Found.{Found}
 use Rattle.dts_lex.specs.declared.lexer.SpanKind.{SpanKind}
@@ -120,17 +120,17 @@ double_within [] h = cc
 double_within (a ∷ []) h = cc
 double_within (a ∷ b ∷ rest) h = omega arith
 
-sign_within : (rounds : Bool) (bytes : List ℕ) → sign rounds bytes ≤ length bytes
-sign_within rounds [] = omega arith
-sign_within rounds (b ∷ rest) =
-    within_if (starts_with nat_eq (b ∷ rest) (codes "/*")) _ _ _ (omega arith) (sign_step (rounds && at_double (b ∷ rest)) refl)
+punctuator_within : (rounds : Bool) (bytes : List ℕ) → punctuator rounds bytes ≤ length bytes
+punctuator_within rounds [] = omega arith
+punctuator_within rounds (b ∷ rest) =
+    within_if (starts_with nat_eq (b ∷ rest) (codes "/*")) _ _ _ (omega arith) (punctuator_step (rounds && at_double (b ∷ rest)) refl)
   where
-    one : (if is_outer_sign b || (rounds && is_operator b) then 1 else 0) ≤ suc (length rest)
-    one = within_if (is_outer_sign b || (rounds && is_operator b)) _ _ _ (omega arith) (omega arith)
+    one : (if is_outer_punctuator b || (rounds && is_operator b) then 1 else 0) ≤ suc (length rest)
+    one = within_if (is_outer_punctuator b || (rounds && is_operator b)) _ _ _ (omega arith) (omega arith)
 
-    sign_step : (t : Bool) → (rounds && at_double (b ∷ rest)) ≡ t → (if t then 2 else if is_outer_sign b || (rounds && is_operator b) then 1 else 0) ≤ suc (length rest)
-    sign_step true e = double_within (b ∷ rest) (and_parts rounds _ e).1
-    sign_step false e = one
+    punctuator_step : (t : Bool) → (rounds && at_double (b ∷ rest)) ≡ t → (if t then 2 else if is_outer_punctuator b || (rounds && is_operator b) then 1 else 0) ≤ suc (length rest)
+    punctuator_step true e = double_within (b ∷ rest) (and_parts rounds _ e).1
+    punctuator_step false e = one
 
 sized_size : (k : SpanKind) (n most : ℕ) → n ≤ most → HasSize most (sized k n)
 sized_size k zero most h = tt
@@ -139,7 +139,7 @@ sized_size k (suc n) most h = (omega arith, h)
 mark_size : (o : Opened) (bytes : List ℕ) → HasSize (length bytes) (mark o bytes)
 mark_size o bytes = size_if _ (not (in_rounds o) && nat_lt 0 (directive_in directives bytes)) _ _
     (λ h. (ltb-true _ _ (and_parts _ _ h).1, directive_within directives bytes))
-    (λ _. sized_size kind.Punct _ _ (sign_within (in_rounds o) bytes))
+    (λ _. sized_size kind.Punct _ _ (punctuator_within (in_rounds o) bytes))
 
 prefix_some : (p : ℕ → Bool) (b : ℕ) (rest : List ℕ) → p b ≡ true → 0 < prefix_len p (b ∷ rest)
 prefix_some p b rest h = rw h (omega arith)

@@ -1,6 +1,7 @@
 -- The tokens of a source: which one stands where, and what is open after it.
 use Rattle.std.specs.Prelude.{◌≡◌, ℕ, zero, suc, ◌+◌, ◌-◌, max, Bool, true, false, ◌&&◌, ◌||◌, not, List, [], ◌∷◌, Option, Some, None, Result, Ok, Err, nat_eq, nat_lt, nat_le, drop, take, length, codes, option_map, if◌then◌else◌}
 use Rattle.std.specs.List.{prefix_len, starts_with}
+use Rattle.edt_base.specs.Ascii.{ampersand, asterisk, backslash, caret, colon, comma, digit_3, double_quote, equals, exclamation, greater_than, hyphen, left_brace, left_bracket, left_parenthesis, less_than, lower_x, newline, percent, plus, question, right_brace, right_bracket, right_parenthesis, semicolon, single_quote, slash, tilde, vertical_bar}
 use Rattle.edt_base.specs.SourceBytes.{is_plain, is_wide, is_hex, is_octal, begins_label}
 use Rattle.dts_lex.specs.Between.{gap, start}
 use Rattle.dts_lex.specs.Names.{is_path}
@@ -30,7 +31,7 @@ is_word_byte narrow b = if narrow then is_plain b else is_wide b
 -- a colon stands at the start
 abbrev pub at_colon : List ℕ → Bool
 at_colon [] = false
-at_colon (b ∷ rest) = nat_eq b 58
+at_colon (b ∷ rest) = nat_eq b colon
 
 -- two hexadecimal digits stand at the start
 abbrev pub at_pair : List ℕ → Bool
@@ -59,7 +60,7 @@ word o n bytes =
 -- whether the byte after this one is escaped, none at the closing quote; after a backslash any byte is text
 abbrev pub escapes : Bool → ℕ → Option Bool
 escapes true b = Some false
-escapes false b = if nat_eq b 34 then None else Some (nat_eq b 92)
+escapes false b = if nat_eq b double_quote then None else Some (nat_eq b backslash)
 
 -- how many bytes a string literal has, its closing quote with it, where one stands
 abbrev pub quoted : Bool → List ℕ → Option ℕ
@@ -75,24 +76,25 @@ quoted escaped (b ∷ rest) = elim (escapes escaped b) [
 abbrev pub escape : List ℕ → ℕ
 escape [] = 0
 escape (b ∷ rest) =
-    if is_octal b then suc (prefix_len is_octal (take (if nat_le b 51 then 2 else 1) rest))
-    else if nat_eq b 120 then suc (prefix_len is_hex (take 2 rest))
+    if is_octal b then suc (prefix_len is_octal (take (if nat_le b digit_3 then 2 else 1) rest))
+    else if nat_eq b lower_x then suc (prefix_len is_hex (take 2 rest))
     else 1
 
 abbrev pub at_quote : List ℕ → Bool
 at_quote [] = false
-at_quote (b ∷ rest) = nat_eq b 39
+at_quote (b ∷ rest) = nat_eq b single_quote
 
 -- how many bytes stand between the quotes of a character: one, no quote, backslash or newline, or one escape
 abbrev pub char_size : List ℕ → ℕ
 char_size [] = 0
-char_size (b ∷ rest) = if nat_eq b 92 then (if nat_eq (escape rest) 0 then 0 else suc (escape rest)) else if nat_eq b 39
-    || nat_eq b 10 then 0 else 1
+char_size (b ∷ rest) = if nat_eq b backslash then (if nat_eq (escape rest) 0 then 0 else suc (escape rest))
+    else if nat_eq b single_quote
+    || nat_eq b newline then 0 else 1
 
 -- ---- references
 
 abbrev pub is_no_brace : ℕ → Bool
-is_no_brace b = not (nat_eq b 125)
+is_no_brace b = not (nat_eq b right_brace)
 
 -- a path, its closing brace with it
 abbrev pub path_reference : List ℕ → Option Found
@@ -104,7 +106,7 @@ path_reference rest =
 abbrev pub reference : List ℕ → Option Found
 reference [] = None
 reference (b ∷ rest) =
-    if nat_eq b 123 then path_reference rest
+    if nat_eq b left_brace then path_reference rest
     else if begins_label b then found kind.Ref (2 + prefix_len is_plain rest)
     else None
 
@@ -121,35 +123,38 @@ directive_in [] bytes = 0
 directive_in (d ∷ ds) bytes = if starts_with nat_eq bytes d then length d else directive_in ds bytes
 
 -- the punctuators outside parentheses: ( ) [ ] { } < > / : ; = ,
-abbrev pub is_outer_sign : ℕ → Bool
-is_outer_sign b = nat_eq b 40 || nat_eq b 41 || nat_eq b 91 || nat_eq b 93 || nat_eq b 123 || nat_eq b 125
-    || nat_eq b 60 || nat_eq b 62
-    || nat_eq b 47 || nat_eq b 58 || nat_eq b 59 || nat_eq b 61 || nat_eq b 44
+abbrev pub is_outer_punctuator : ℕ → Bool
+is_outer_punctuator b = nat_eq b left_parenthesis || nat_eq b right_parenthesis || nat_eq b left_bracket
+    || nat_eq b right_bracket || nat_eq b left_brace || nat_eq b right_brace
+    || nat_eq b less_than || nat_eq b greater_than
+    || nat_eq b slash || nat_eq b colon || nat_eq b semicolon || nat_eq b equals || nat_eq b comma
 
 -- the operators of one byte that are no punctuators outside: - ~ ! * % + & ^ | ?
 abbrev pub is_operator : ℕ → Bool
-is_operator b = nat_eq b 45 || nat_eq b 126 || nat_eq b 33 || nat_eq b 42 || nat_eq b 37 || nat_eq b 43 || nat_eq b 38
-    || nat_eq b 94
-    || nat_eq b 124 || nat_eq b 63
+is_operator b = nat_eq b hyphen || nat_eq b tilde || nat_eq b exclamation || nat_eq b asterisk || nat_eq b percent
+    || nat_eq b plus || nat_eq b ampersand
+    || nat_eq b caret
+    || nat_eq b vertical_bar || nat_eq b question
 
 -- the operators of two bytes: << <= >> >= == != && ||
 abbrev pub is_double : ℕ → ℕ → Bool
 is_double a b =
-    (nat_eq a 60 && (nat_eq b 60 || nat_eq b 61)) || (nat_eq a 62 && (nat_eq b 62 || nat_eq b 61))
-    || (nat_eq b 61 && (nat_eq a 61 || nat_eq a 33))
-    || (nat_eq a 38 && nat_eq b 38) || (nat_eq a 124 && nat_eq b 124)
+    (nat_eq a less_than && (nat_eq b less_than || nat_eq b equals)) || (nat_eq a greater_than
+    && (nat_eq b greater_than || nat_eq b equals))
+    || (nat_eq b equals && (nat_eq a equals || nat_eq a exclamation))
+    || (nat_eq a ampersand && nat_eq b ampersand) || (nat_eq a vertical_bar && nat_eq b vertical_bar)
 
 abbrev pub at_double : List ℕ → Bool
 at_double (a ∷ b ∷ rest) = is_double a b
 at_double _ = false
 
 -- how many bytes the punctuator at the start has, 0 without one; an open comment is none
-abbrev pub sign : Bool → List ℕ → ℕ
-sign rounds [] = 0
-sign rounds (b ∷ rest) =
+abbrev pub punctuator : Bool → List ℕ → ℕ
+punctuator rounds [] = 0
+punctuator rounds (b ∷ rest) =
     if starts_with nat_eq (b ∷ rest) (codes "/*") then 0
     else if rounds && at_double (b ∷ rest) then 2
-    else if is_outer_sign b || (rounds && is_operator b) then 1
+    else if is_outer_punctuator b || (rounds && is_operator b) then 1
     else 0
 
 abbrev pub sized : SpanKind → ℕ → Option Found
@@ -167,7 +172,7 @@ char rest = if nat_lt 0 (char_size rest) && at_quote (drop (char_size rest) rest
 abbrev pub mark : Opened → List ℕ → Option Found
 mark o bytes = if not (in_rounds o) && nat_lt 0 (directive_in directives bytes)
     then found kind.Directive (directive_in directives bytes)
-    else sized kind.Punct (sign (in_rounds o) bytes)
+    else sized kind.Punct (punctuator (in_rounds o) bytes)
 
 -- a text, both quotes with it
 abbrev pub text : List ℕ → Option Found
@@ -178,9 +183,9 @@ abbrev pub stands : Opened → List ℕ → Option Found
 stands o [] = None
 stands o (b ∷ rest) =
     if is_word_byte (is_narrow o) b then word o (prefix_len (is_word_byte (is_narrow o)) (b ∷ rest)) (b ∷ rest)
-    else if nat_eq b 34 then text rest
-    else if nat_eq b 39 then char rest
-    else if nat_eq b 38 && not (in_rounds o) then reference rest
+    else if nat_eq b double_quote then text rest
+    else if nat_eq b single_quote then char rest
+    else if nat_eq b ampersand && not (in_rounds o) then reference rest
     else mark o (b ∷ rest)
 
 -- ---- what is open after a token
@@ -190,16 +195,16 @@ below zero = zero
 below (suc n) = n
 
 -- after a punctuator of one byte; within parentheses `<` and `>` are operators
-abbrev pub behind_sign : Opened → ℕ → Opened
-behind_sign o b =
-    if nat_eq b 40 then record o { rounds = suc o.rounds }
-    else if nat_eq b 41 then record o { rounds = below o.rounds }
-    else if nat_eq b 91 then record o { squares = suc o.squares }
-    else if nat_eq b 93 then record o { squares = below o.squares }
-    else if nat_eq b 60 && not (in_rounds o) then record o { angles = suc o.angles }
-    else if nat_eq b 62 && not (in_rounds o) then record o { angles = below o.angles }
-    else if nat_eq b 61 then record o { value = true }
-    else if nat_eq b 59 then record o { value = false }
+abbrev pub behind_punctuator : Opened → ℕ → Opened
+behind_punctuator o b =
+    if nat_eq b left_parenthesis then record o { rounds = suc o.rounds }
+    else if nat_eq b right_parenthesis then record o { rounds = below o.rounds }
+    else if nat_eq b left_bracket then record o { squares = suc o.squares }
+    else if nat_eq b right_bracket then record o { squares = below o.squares }
+    else if nat_eq b less_than && not (in_rounds o) then record o { angles = suc o.angles }
+    else if nat_eq b greater_than && not (in_rounds o) then record o { angles = below o.angles }
+    else if nat_eq b equals then record o { value = true }
+    else if nat_eq b semicolon then record o { value = false }
     else o
 
 abbrev pub at_least : ℕ → ℕ → ℕ
@@ -214,7 +219,7 @@ behind_directive o text =
 abbrev pub behind : Opened → SpanKind → List ℕ → Opened
 behind o kind.Number text = record o { numbers = below o.numbers }
 behind o kind.Directive text = behind_directive o text
-behind o kind.Punct (b ∷ []) = behind_sign o b
+behind o kind.Punct (b ∷ []) = behind_punctuator o b
 behind o _ text = o
 
 -- ---- the next token

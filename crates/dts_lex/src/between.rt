@@ -106,7 +106,7 @@ fn marks_place(bytes: &[u8]) -> bool
     ensures { result ≡ marks_place bytes.now }
 {
     match bytes {
-        [sign, blank, digit, ..] => *sign == b'#' && *blank == b' ' && is_digit(*digit),
+        [punctuator, blank, digit, ..] => *punctuator == b'#' && *blank == b' ' && is_digit(*digit),
         _ => false,
     }
 }

@@ -7,7 +7,7 @@ mod laws;
 mod lexer;
 mod names;
 mod opened;
-mod signs;
+mod punctuators;
 mod token;
 mod words;
 

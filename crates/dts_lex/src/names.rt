@@ -13,7 +13,7 @@ pub(crate) enum Row {
     /// In a name.
     Word,
     /// After the `@` of a name.
-    Sign,
+    At,
     /// In the unit address of a name.
     Unit,
 }
@@ -27,14 +27,14 @@ fn row_step(state: Row, byte: u8) -> Option<Row>
             if is_node_byte(byte) {
                 Some(Row::Word)
             } else if byte == b'@' {
-                Some(Row::Sign)
+                Some(Row::At)
             } else if byte == b'/' {
                 Some(Row::Slash)
             } else {
                 None
             }
         }
-        Row::Sign => is_node_byte(byte).then_some(Row::Unit),
+        Row::At => is_node_byte(byte).then_some(Row::Unit),
         Row::Unit => {
             if is_node_byte(byte) {
                 Some(Row::Unit)
@@ -51,7 +51,7 @@ fn row_ends(state: Row) -> bool
     ensures { result ≡ row_ends state }
 {
     match state {
-        Row::Slash | Row::Sign => false,
+        Row::Slash | Row::At => false,
         Row::Word | Row::Unit => true,
     }
 }

@@ -2,7 +2,7 @@
 
 ghost use Rattle.std.specs.Prelude.{◌≡◌, ◌≤◌, ◌<◌, ◌+◌, ◌^◌};
 ghost use Rattle.dts_lex.specs.Left.{nothing_open};
-ghost use Rattle.dts_lex.specs.Tokens.{at_least, behind, behind_directive, behind_sign, below};
+ghost use Rattle.dts_lex.specs.Tokens.{at_least, behind, behind_directive, behind_punctuator, below};
 ghost use Rattle.dts_lex.specs.Tokens.{in_rounds, is_narrow};
 ghost use Rattle.dts_lex.specs.Inner.Counts.{AreAtMost};
 
@@ -62,7 +62,7 @@ impl Opened {
             SpanKind::Number => self.behind_number(),
             SpanKind::Directive => self.behind_directive(text),
             SpanKind::Punct => match text {
-                [byte] => self.behind_sign(*byte, most),
+                [byte] => self.behind_punctuator(*byte, most),
                 _ => self,
             },
             _ => self,
@@ -101,10 +101,10 @@ impl Opened {
         Opened { numbers, ..self }
     }
 
-    fn behind_sign(self, byte: u8, most: u64) -> Opened
+    fn behind_punctuator(self, byte: u8, most: u64) -> Opened
         requires counts { AreAtMost self most }
         requires room { most + 1 < 2 ^ 64 }
-        ensures opened { result ≡ behind_sign self byte }
+        ensures opened { result ≡ behind_punctuator self byte }
         ensures counts { AreAtMost result (most + 1) }
     {
         match byte {

@@ -13,7 +13,7 @@ ghost use Rattle.dts_lex.specs.Tokens.{quoted, reference, sized, stands, text, w
 use crate::lexer::SpanKind;
 use crate::names::is_path;
 use crate::opened::Opened;
-use crate::signs::{directive_length, sign_length};
+use crate::punctuators::{directive_length, punctuator_length};
 use crate::words::{begins_label, is_hex, is_octal, is_word_byte, plain_length, word_length};
 
 /// What stands somewhere.
@@ -306,13 +306,13 @@ fn mark(opened: Opened, bytes: &[u8]) -> Option<Found>
     ensures size { IfSome result (λ f. (0 < f.size) × (f.size ≤ length bytes.now)) }
 {
     if opened.in_rounds() {
-        return sized(SpanKind::Punct, sign_length(true, bytes));
+        return sized(SpanKind::Punct, punctuator_length(true, bytes));
     }
     let size = directive_length(bytes);
     if size > 0 {
         of_size(SpanKind::Directive, size)
     } else {
-        sized(SpanKind::Punct, sign_length(false, bytes))
+        sized(SpanKind::Punct, punctuator_length(false, bytes))
     }
 }
 

@@ -1,10 +1,10 @@
 -- What an expression spells is read as what it is worth.
 use Rattle.std.proofs.Common.{◌≡◌, ◌<◌, ◌≤◌, ℕ, zero, suc, Bool, false, List, [], ◌∷◌, Option, Some, None, refl, ap, ◌∙◌, arith}
 use Rattle.std.proofs.lemmas.Bool.{le-leb, lt-leb}
-use Rattle.dts_parse.specs.Exprs.{Literal, Small, Large, Letter, Tree, Num, Round, Un, Bin, Cond, IsProper, below, count, large, level, literal_sign, more, or_large, spell, worth_of}
+use Rattle.dts_parse.specs.Exprs.{Literal, Small, Large, Letter, Tree, Num, Round, Un, Bin, Cond, IsProper, below, count, large, level, literal_terminal, more, or_large, spell, worth_of}
 use Rattle.dts_parse.specs.Inner.Machine.{Climbed, Shape, behind_operand, chosen, climbed, closed_round, joined, reduced, tested}
 use Rattle.dts_parse.specs.Token.{is_include}
-use Rattle.dts_parse.specs.Token.{Spot, Token, bin_sign, op_level, token, un_sign}
+use Rattle.dts_parse.specs.Token.{Spot, Token, bin_terminal, op_level, token, un_terminal}
 use Rattle.dts_parse.specs.declared.expr.BinOp.{BinOp}
 use Rattle.dts_parse.specs.declared.expr.BinOp.TheVariants.{Mul, Div, Rem, Add, Sub, Shl, Shr, Lt, Gt, Le, Ge, Eq, Ne, BitAnd, BitXor, BitOr, And, Or}
 use Rattle.dts_parse.specs.declared.expr.UnOp.{UnOp}
@@ -12,8 +12,8 @@ use Rattle.dts_parse.specs.declared.expr.UnOp.TheVariants.{Neg, Flip, Not}
 use Rattle.dts_parse.specs.declared.mode.Frame.{Frame}
 use Rattle.dts_parse.specs.declared.mode.Frame.TheVariants as frame
 use Rattle.dts_parse.specs.declared.mode.Mode.TheVariants as mode
-use Rattle.dts_parse.specs.declared.sign.Sign.TheVariants as sign
-use Rattle.dts_parse.specs.declared.sign.Width.{Width}
+use Rattle.dts_parse.specs.declared.terminal.Terminal.TheVariants as terminal
+use Rattle.dts_parse.specs.declared.terminal.Width.{Width}
 use Rattle.dts_parse.specs.Worth.{bin, cond}
 use Rattle.dts_parse.proofs.Kept.{spine}
 use Rattle.dts_parse.proofs.Leading.{Moves, Reads, go, hop, moves}
@@ -102,7 +102,7 @@ operand_at s w d h n fs = record s { mode = mode.Operand w; colon = false; depth
 abbrev pub operator_at : Shape → Width → ℕ → Bool → ℕ → Climbed → Shape
 operator_at s w d h n c = record s { mode = mode.Operator w c.worth; colon = false; depth = d; huge = h; long = n; frames = c.left }
 
-pub step_op : (w : Width) (v : Option ℕ) (s : Shape) (p : Spot) (o : BinOp) → behind_operand w v s p (bin_sign o) ≡ joined w s o (climbed (op_level o) s.frames v)
+pub step_op : (w : Width) (v : Option ℕ) (s : Shape) (p : Spot) (o : BinOp) → behind_operand w v s p (bin_terminal o) ≡ joined w s o (climbed (op_level o) s.frames v)
 step_op w v s p Mul = refl
 step_op w v s p Div = refl
 step_op w v s p Rem = refl
@@ -122,7 +122,7 @@ step_op w v s p BitOr = refl
 step_op w v s p And = refl
 step_op w v s p Or = refl
 
-pub no_include : (o : BinOp) → is_include (bin_sign o) ≡ false
+pub no_include : (o : BinOp) → is_include (bin_terminal o) ≡ false
 no_include Mul = refl
 no_include Div = refl
 no_include Rem = refl
@@ -144,62 +144,62 @@ no_include Or = refl
 
 pub reads_literal : (q_ base : Bool) (s : Shape) (w : Width) (d : ℕ) (h : Bool) (n : ℕ) (fs : List Frame) (before : List Token) (l : Literal) (p : Spot)
     → Reads q_ base before (operand_at s w d h n fs)
-    → Reads q_ base (token (literal_sign l) p ∷ before) (operator_at s w d (or_large l h) (more n) (spine (Num l p) fs))
-reads_literal q_ base s w d h n fs before (Small x) p k = hop (token (sign.Number x) p) k refl refl
-reads_literal q_ base s w d h n fs before Large p k = hop (token sign.Huge p) k refl refl
-reads_literal q_ base s w d h n fs before (Letter x) p k = hop (token (sign.Char x) p) k refl refl
+    → Reads q_ base (token (literal_terminal l) p ∷ before) (operator_at s w d (or_large l h) (more n) (spine (Num l p) fs))
+reads_literal q_ base s w d h n fs before (Small x) p k = hop (token (terminal.Number x) p) k refl refl
+reads_literal q_ base s w d h n fs before Large p k = hop (token terminal.Huge p) k refl refl
+reads_literal q_ base s w d h n fs before (Letter x) p k = hop (token (terminal.Char x) p) k refl refl
 
 pub reads_un : (q_ base : Bool) (s : Shape) (w : Width) (d : ℕ) (h : Bool) (n : ℕ) (fs : List Frame) (before : List Token) (o : UnOp) (p : Spot)
     → Reads q_ base before (operand_at s w d h n fs)
-    → Reads q_ base (token (un_sign o) p ∷ before) (operand_at s w d h (more n) (frame.Un o ∷ fs))
-reads_un q_ base s w d h n fs before Neg p k = hop (token sign.Minus p) k refl refl
-reads_un q_ base s w d h n fs before Flip p k = hop (token sign.Tilde p) k refl refl
-reads_un q_ base s w d h n fs before Not p k = hop (token sign.Bang p) k refl refl
+    → Reads q_ base (token (un_terminal o) p ∷ before) (operand_at s w d h (more n) (frame.Un o ∷ fs))
+reads_un q_ base s w d h n fs before Neg p k = hop (token terminal.Minus p) k refl refl
+reads_un q_ base s w d h n fs before Flip p k = hop (token terminal.Tilde p) k refl refl
+reads_un q_ base s w d h n fs before Not p k = hop (token terminal.Bang p) k refl refl
 
 pub joins : (q_ : Bool) (s : Shape) (w : Width) (d : ℕ) (h : Bool) (n : ℕ) (fs : List Frame) (o : BinOp) (p : Spot) (v : Option ℕ) (c : Climbed)
     → climbed (op_level o) c.left c.worth ≡ record { left = fs; worth = v }
-    → Moves q_ (operator_at s w d h n c) (token (bin_sign o) p) (operand_at s w d h (more n) (frame.Bin o v ∷ fs))
-joins q_ s w d h n fs o p v c e = moves (token (bin_sign o) p) (step_op w c.worth (operator_at s w d h n c) p o ∙ ap (λ x. joined w (operator_at s w d h n c) o x) e)
+    → Moves q_ (operator_at s w d h n c) (token (bin_terminal o) p) (operand_at s w d h (more n) (frame.Bin o v ∷ fs))
+joins q_ s w d h n fs o p v c e = moves (token (bin_terminal o) p) (step_op w c.worth (operator_at s w d h n c) p o ∙ ap (λ x. joined w (operator_at s w d h n c) o x) e)
 
 pub tests : (q_ : Bool) (s : Shape) (w : Width) (d : ℕ) (h : Bool) (n : ℕ) (fs : List Frame) (p : Spot) (v : Option ℕ) (c : Climbed)
     → climbed 11 c.left c.worth ≡ record { left = fs; worth = v }
-    → Moves q_ (operator_at s w d h n c) (token sign.Question p) (operand_at s w d h (more n) (frame.Cond v ∷ fs))
-tests q_ s w d h n fs p v c e = moves (token sign.Question p) (ap (λ x. tested w (operator_at s w d h n c) x) e)
+    → Moves q_ (operator_at s w d h n c) (token terminal.Question p) (operand_at s w d h (more n) (frame.Cond v ∷ fs))
+tests q_ s w d h n fs p v c e = moves (token terminal.Question p) (ap (λ x. tested w (operator_at s w d h n c) x) e)
 
 pub chooses : (q_ : Bool) (s : Shape) (w : Width) (d : ℕ) (h : Bool) (n : ℕ) (fs : List Frame) (p : Spot) (t v : Option ℕ) (c : Climbed)
     → climbed 12 c.left c.worth ≡ record { left = frame.Cond t ∷ fs; worth = v }
-    → Moves q_ (operator_at s w d h n c) (token sign.Colon p) (operand_at s w d h (more n) (frame.Else t v ∷ fs))
-chooses q_ s w d h n fs p t v c e = moves (token sign.Colon p) (ap (λ x. chosen w (operator_at s w d h n c) p x) e)
+    → Moves q_ (operator_at s w d h n c) (token terminal.Colon p) (operand_at s w d h (more n) (frame.Else t v ∷ fs))
+chooses q_ s w d h n fs p t v c e = moves (token terminal.Colon p) (ap (λ x. chosen w (operator_at s w d h n c) p x) e)
 
 pub ends_round : (q_ : Bool) (s : Shape) (w : Width) (d : ℕ) (h : Bool) (n : ℕ) (fs : List Frame) (p : Spot) (v : Option ℕ) (c : Climbed)
     → climbed 12 c.left c.worth ≡ record { left = frame.Round ∷ fs; worth = v }
-    → Moves q_ (operator_at s w (suc d) h n c) (token sign.RightRound p) (operator_at s w d h (more n) (record { left = fs; worth = v }))
-ends_round q_ s w d h n fs p v c e = moves (token sign.RightRound p) (ap (λ x. closed_round w (operator_at s w (suc d) h n c) p x) e)
+    → Moves q_ (operator_at s w (suc d) h n c) (token terminal.RightRound p) (operator_at s w d h (more n) (record { left = fs; worth = v }))
+ends_round q_ s w d h n fs p v c e = moves (token terminal.RightRound p) (ap (λ x. closed_round w (operator_at s w (suc d) h n c) p x) e)
 
 pub reads : (q_ base : Bool) (e : Tree) (s : Shape) (w : Width) (d : ℕ) (h : Bool) (n : ℕ) (fs : List Frame) (before : List Token)
     → IsProper e → level e ≤ room_of fs → Reads q_ base before (operand_at s w d h n fs)
     → Reads q_ base (spell e before) (operator_at s w d (large e h) (count e n) (spine e fs))
 reads q_ base (Num l p) s w d h n fs before is room k = reads_literal q_ base s w d h n fs before l p k
 reads q_ base (Round b e f) s w d h n fs before is room k =
-    let opened : Reads q_ base (token sign.LeftRound b ∷ before) (operand_at s w (suc d) h (more n) (frame.Round ∷ fs)) = hop (token sign.LeftRound b) k refl refl in
-    go (token sign.RightRound f) (reads q_ base e s w (suc d) h (more n) (frame.Round ∷ fs) (token sign.LeftRound b ∷ before) is (level_range e) opened) refl
+    let opened : Reads q_ base (token terminal.LeftRound b ∷ before) (operand_at s w (suc d) h (more n) (frame.Round ∷ fs)) = hop (token terminal.LeftRound b) k refl refl in
+    go (token terminal.RightRound f) (reads q_ base e s w (suc d) h (more n) (frame.Round ∷ fs) (token terminal.LeftRound b ∷ before) is (level_range e) opened) refl
     (ends_round q_ s w d (large e h) (count e (more n)) fs f (worth_of e) (spine e (frame.Round ∷ fs)) (closes e 12 (frame.Round ∷ fs) is (level_range e)))
 reads q_ base (Un o p e) s w d h n fs before is room k =
-    reads q_ base e s w d h (more n) (frame.Un o ∷ fs) (token (un_sign o) p ∷ before) is.1 is.0 (reads_un q_ base s w d h n fs before o p k)
+    reads q_ base e s w d h (more n) (frame.Un o ∷ fs) (token (un_terminal o) p ∷ before) is.1 is.0 (reads_un q_ base s w d h n fs before o p k)
 reads q_ base (Bin l o p r) s w d h n fs before is room k =
     let range : (2 ≤ op_level o) × (op_level o ≤ 11) = op_range o in
     let left : Reads q_ base (spell l before) (operator_at s w d (large l h) (count l n) (spine l fs)) = reads q_ base l s w d h n fs before is.2 (omega arith) k in
-    let joined_ : Reads q_ base (token (bin_sign o) p ∷ spell l before) (operand_at s w d (large l h) (more (count l n)) (frame.Bin o (worth_of l) ∷ fs)) =
-    go (token (bin_sign o) p) left (no_include o) (joins q_ s w d (large l h) (count l n) fs o p (worth_of l) (spine l fs)
+    let joined_ : Reads q_ base (token (bin_terminal o) p ∷ spell l before) (operand_at s w d (large l h) (more (count l n)) (frame.Bin o (worth_of l) ∷ fs)) =
+    go (token (bin_terminal o) p) left (no_include o) (joins q_ s w d (large l h) (count l n) fs o p (worth_of l) (spine l fs)
     (closes l (op_level o) fs is.2 is.0 ∙ stays (op_level o) fs (worth_of l) range.0 range.1 room)) in
-    reads q_ base r s w d (large l h) (more (count l n)) (frame.Bin o (worth_of l) ∷ fs) (token (bin_sign o) p ∷ spell l before) is.3 (below_is (level r) (op_level o) is.1) joined_
+    reads q_ base r s w d (large l h) (more (count l n)) (frame.Bin o (worth_of l) ∷ fs) (token (bin_terminal o) p ∷ spell l before) is.3 (below_is (level r) (op_level o) is.1) joined_
 reads q_ base (Cond c q a k b) s w d h n fs before is room g =
     let test : Reads q_ base (spell c before) (operator_at s w d (large c h) (count c n) (spine c fs)) = reads q_ base c s w d h n fs before is.1 (omega arith) g in
-    let question : Reads q_ base (token sign.Question q ∷ spell c before) (operand_at s w d (large c h) (more (count c n)) (frame.Cond (worth_of c) ∷ fs)) =
-    go (token sign.Question q) test refl (tests q_ s w d (large c h) (count c n) fs q (worth_of c) (spine c fs)
+    let question : Reads q_ base (token terminal.Question q ∷ spell c before) (operand_at s w d (large c h) (more (count c n)) (frame.Cond (worth_of c) ∷ fs)) =
+    go (token terminal.Question q) test refl (tests q_ s w d (large c h) (count c n) fs q (worth_of c) (spine c fs)
     (closes c 11 fs is.1 is.0 ∙ stays 11 fs (worth_of c) (omega arith) (omega arith) (omega arith))) in
-    let first = reads q_ base a s w d (large c h) (more (count c n)) (frame.Cond (worth_of c) ∷ fs) (token sign.Question q ∷ spell c before) is.2 (level_range a) question in
-    let colon : Reads q_ base (token sign.Colon k ∷ spell a (token sign.Question q ∷ spell c before)) (operand_at s w d (large a (large c h)) (more (count a (more (count c n)))) (frame.Else (worth_of c) (worth_of a) ∷ fs)) =
-    go (token sign.Colon k) first refl (chooses q_ s w d (large a (large c h)) (count a (more (count c n))) fs k (worth_of c) (worth_of a) (spine a (frame.Cond (worth_of c) ∷ fs))
+    let first = reads q_ base a s w d (large c h) (more (count c n)) (frame.Cond (worth_of c) ∷ fs) (token terminal.Question q ∷ spell c before) is.2 (level_range a) question in
+    let colon : Reads q_ base (token terminal.Colon k ∷ spell a (token terminal.Question q ∷ spell c before)) (operand_at s w d (large a (large c h)) (more (count a (more (count c n)))) (frame.Else (worth_of c) (worth_of a) ∷ fs)) =
+    go (token terminal.Colon k) first refl (chooses q_ s w d (large a (large c h)) (count a (more (count c n))) fs k (worth_of c) (worth_of a) (spine a (frame.Cond (worth_of c) ∷ fs))
     (closes a 12 (frame.Cond (worth_of c) ∷ fs) is.2 (level_range a))) in
-    reads q_ base b s w d (large a (large c h)) (more (count a (more (count c n)))) (frame.Else (worth_of c) (worth_of a) ∷ fs) (token sign.Colon k ∷ spell a (token sign.Question q ∷ spell c before)) is.3 (level_range b) colon
+    reads q_ base b s w d (large a (large c h)) (more (count a (more (count c n)))) (frame.Else (worth_of c) (worth_of a) ∷ fs) (token terminal.Colon k ∷ spell a (token terminal.Question q ∷ spell c before)) is.3 (level_range b) colon

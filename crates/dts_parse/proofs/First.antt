@@ -8,7 +8,7 @@ use Rattle.dts_lex.specs.Tokens.{next_of}
 use Rattle.dts_lex.specs.declared.lexer.LexFault.{LexFault}
 use Rattle.dts_lex.specs.declared.lexer.Span.{Span}
 use Rattle.dts_lex.proofs.SliceLaws.{are_faults_within, are_slices}
-use Rattle.dts_parse.specs.Exprs.{literal_sign, spell}
+use Rattle.dts_parse.specs.Exprs.{literal_terminal, spell}
 use Rattle.dts_parse.specs.Fronts.{Front, At_site, In_list, Listed, expression, in_expression, is_opening, nested, spell_front, spell_listed}
 use Rattle.dts_parse.specs.Inner.Machine.{Fault, Shape, Step, in_rounds, step, stop, taken, walk}
 use Rattle.dts_parse.specs.Token.{is_include}
@@ -17,8 +17,8 @@ use Rattle.dts_parse.specs.Token.{Token, token}
 use Rattle.dts_parse.specs.Values.{Element, Lone, Group, Refer, element_place, spell_element}
 use Rattle.dts_parse.specs.declared.mode.Breach.{Breach}
 use Rattle.dts_parse.specs.declared.mode.Breach.TheVariants.{S1, S2, S5, S6}
-use Rattle.dts_parse.specs.declared.sign.Sign.TheVariants as sign
-use Rattle.dts_parse.specs.declared.sign.Width.{Width}
+use Rattle.dts_parse.specs.declared.terminal.Terminal.TheVariants as terminal
+use Rattle.dts_parse.specs.declared.terminal.Width.{Width}
 use Rattle.dts_parse.proofs.Elements.{Behind, init, inner_stops, last_token, misfit_ends, misfit_not_ok, parts_are, spell_behind}
 use Rattle.dts_parse.proofs.Kept.{kept}
 use Rattle.dts_parse.proofs.Leading.{IsOther}
@@ -44,7 +44,7 @@ position src base seen left s ha w b lb hb =
       | Longer r ↦ Beyond r.t r.ext r.parts
     ]
 
--- the next token behind them
+-- the next token after them
 pub record Next (src : List ℕ) (lb : Left) (t : Token) (after : Left) : Type 0 where
   pub span : Span
   pub is : next_of lb ≡ Ok (Some (span, after))
@@ -85,14 +85,14 @@ s2_not_inside src base at o t s after w h =
     let e : (t ≡ token_of src o.span) × (after ≡ o.next) = token_same src (spell_front o.front) t o.left after o.next o.span h o.tokens o.is in
     s2_not_ok src base at o s (ap (λ x. walk base (x ∷ spell_front o.front)) (sym e.0) ∙ w)
 
-include_stops : (s : Shape) (t : Token) → is_include t.sign ≡ true → step s t ≡ stop S6 t.spot
-include_stops s t i = if_then (is_include t.sign) _ _ i
+include_stops : (s : Shape) (t : Token) → is_include t.terminal ≡ true → step s t ≡ stop S6 t.spot
+include_stops s t i = if_then (is_include t.terminal) _ _ i
 
 s6_not_inside : (src : List ℕ) (base : Bool) (at : ℕ) (o : IsS6 src at) (t : Token) (s : Shape) (after : Left) → walk base (t ∷ o.before) ≡ Ok s → AreTokens src (t ∷ o.before) after → ⊥
 s6_not_inside src base at o t s after w h =
     let e : (t ≡ token_of src o.span) × (after ≡ o.next) = token_same src o.before t o.left after o.next o.span h o.tokens o.is in
     let k : Walked base o.before t s = walked base o.before t s w in
-    let i : is_include t.sign ≡ true = (let F : Token → Bool = λ x. is_include x.sign in ap F e.0) ∙ o.include in
+    let i : is_include t.terminal ≡ true = (let F : Token → Bool = λ x. is_include x.terminal in ap F e.0) ∙ o.include in
     not_ok _ s (sym (include_stops k.mid t i) ∙ k.last)
 
 -- ---- places of other rules
@@ -107,7 +107,7 @@ s1_place src base at o =
     let k : o.left.at + length o.left.bytes ≡ length src = within_source src (spell_front o.front) o.left o.tokens in
     none_place src base (spell_front o.front) at o.left (next_of o.left) refl (omega arith) o.none
 
--- tokens beyond a token that is there: the token, and what is left behind it is not behind them
+-- tokens beyond a token that is there: the token, and what is left after it is not after them
 pub record Passed (src : List ℕ) (seen : List Token) (y t : Token) (next lb : Left) : Type 0 where
   pub same : y ≡ t
   pub at : next.at ≤ lb.at
@@ -129,7 +129,7 @@ s5_not_ok src base at o s w = misfit_not_ok base o.w o.l o.e s o.misfit w
 abbrev pub Order : ℕ → Breach → ℕ → Breach → Type 0
 Order at rule other_at other = (at < other_at) ⊎ ((at ≡ other_at) × ((other ≡ rule) ⊎ (other ≡ S1)))
 
--- no token is next behind these
+-- no token is next after these
 abbrev pub NoNext : Left → Type 0
 NoNext left = (span : Span) (next : Left) → next_of left ≡ Ok (Some (span, next)) → ⊥
 
@@ -142,7 +142,7 @@ beyond_next src seen b ext y left lb ha hb parts none =
 pub there_left : (src : List ℕ) (seen b : List Token) (left lb : Left) → AreTokens src seen left → AreTokens src b lb → seen ≡ b → left ≡ lb
 there_left src seen b left lb ha hb e = left_same src b left lb (subst (λ (z : List Token). AreTokens src z left) e ha) hb
 
--- behind the last token only S1 can stand, at what is there
+-- after the last token only S1 can stand, at what is there
 pub others_none : (src : List ℕ) (base : Bool) (seen : List Token) (left : Left) (s : Shape) → AreTokens src seen left → walk base seen ≡ Ok s → NoNext left
     → (rule : Breach) (at : ℕ) → IsBroken src base rule at → (rule ≡ S1) × NoneTakes src base seen at (next_of left)
 others_none src base seen left s ha w none S1 at o =
@@ -205,7 +205,7 @@ pub record Stands (src : List ℕ) (base : Bool) (seen : List Token) (span : Spa
   pub spells : spell_front f ≡ seen
   pub keeps : kept f ≡ p.s
   pub tokens : AreTokens src (spell_front f) p.left
-  pub sound : Sound base f (token_of src span) (taken p.s (token_of src span).spot (token_of src span).sign)
+  pub sound : Sound base f (token_of src span) (taken p.s (token_of src span).spot (token_of src span).terminal)
 
 stands : (src : List ℕ) (base : Bool) (seen : List Token) (span : Span) (x : Fault) (p : Stop src base seen span x) → Stands src base seen span x p
 stands src base seen span x p =
@@ -246,13 +246,13 @@ misfit_shallow src base seen span x p five at other o below =
 -- the place of an element is no later than its last token
 element_most : (src : List ℕ) (base : Bool) (w : Width) (l : Listed base w) (e : Element w) (seen : List Token) (left next : Left) (span : Span)
     → AreTokens src seen left → next_of left ≡ Ok (Some (span, next)) → spell_element e (spell_listed l) ≡ token_of src span ∷ seen → element_place e ≤ span.start
-element_most src base w (l) (Lone i p) seen left next span h e spells = let k : token (literal_sign i) p ≡ token_of src span = cc in let n : p.at ≡ span.start = ap (λ z. z.spot.at) k in omega arith
-element_most src base w l (Refer i p) seen left next span h e spells = let k : token sign.Ref p ≡ token_of src span = cc in let n : p.at ≡ span.start = ap (λ z. z.spot.at) k in omega arith
+element_most src base w (l) (Lone i p) seen left next span h e spells = let k : token (literal_terminal i) p ≡ token_of src span = cc in let n : p.at ≡ span.start = ap (λ z. z.spot.at) k in omega arith
+element_most src base w l (Refer i p) seen left next span h e spells = let k : token terminal.Ref p ≡ token_of src span = cc in let n : p.at ≡ span.start = ap (λ z. z.spot.at) k in omega arith
 element_most src base w l (Group b i is f) seen left next span h e spells =
-    let rest : spell i (token sign.LeftRound b ∷ spell_listed l) ≡ seen = cc in
-    let d : Behind (spell i (token sign.LeftRound b ∷ spell_listed l)) (token sign.LeftRound b ∷ spell_listed l) = spell_behind i (token sign.LeftRound b ∷ spell_listed l) in
-    let p : Prefix src (token sign.LeftRound b ∷ spell_listed l) left = prefix src d.ext (token sign.LeftRound b ∷ spell_listed l) left (subst (λ (z : List Token). AreTokens src z left) (sym rest ∙ d.parts) h) in
-    let f : Follows src (spell_listed l) (token sign.LeftRound b) p.left = follows src (spell_listed l) (token sign.LeftRound b) p.left p.tokens in
+    let rest : spell i (token terminal.LeftRound b ∷ spell_listed l) ≡ seen = cc in
+    let d : Behind (spell i (token terminal.LeftRound b ∷ spell_listed l)) (token terminal.LeftRound b ∷ spell_listed l) = spell_behind i (token terminal.LeftRound b ∷ spell_listed l) in
+    let p : Prefix src (token terminal.LeftRound b ∷ spell_listed l) left = prefix src d.ext (token terminal.LeftRound b ∷ spell_listed l) left (subst (λ (z : List Token). AreTokens src z left) (sym rest ∙ d.parts) h) in
+    let f : Follows src (spell_listed l) (token terminal.LeftRound b) p.left = follows src (spell_listed l) (token terminal.LeftRound b) p.left p.tokens in
     let q : Places f.left f.span p.left = places f.left p.left f.span f.is in
     let n : b.at ≡ f.span.start = ap (λ z. z.spot.at) f.token_is in
     let r : Places left span next = places left next span e in
@@ -315,21 +315,21 @@ blame_at : (src : List ℕ) (base : Bool) (seen : List Token) (span : Span) (x :
 blame_at src base seen span x p k (By_include i e) =
     blamed_along src base span x _ e (record { broken = record { before = seen; left = p.left; span = span; next = p.next; tokens = p.tokens; is = p.is; place_is = refl; include = i }; most = omega arith; limit = λ z. refl })
 blame_at src base seen span x p k (By_depth o d e) =
-    let open_is : is_opening (in_expression k.f) (token_of src span).sign ≡ true =
-    ap (λ b. is_opening b (token_of src span).sign) (sym (rounds_is base k.f)) ∙ ((let F : Shape → Bool = λ z. is_opening (in_rounds z.mode) (token_of src span).sign in ap F k.keeps) ∙ o) in
+    let open_is : is_opening (in_expression k.f) (token_of src span).terminal ≡ true =
+    ap (λ b. is_opening b (token_of src span).terminal) (sym (rounds_is base k.f)) ∙ ((let F : Shape → Bool = λ z. is_opening (in_rounds z.mode) (token_of src span).terminal in ap F k.keeps) ∙ o) in
     let depth : p.s.depth ≡ nested k.f = (let F : Shape → ℕ = λ z. z.depth in ap F (sym k.keeps)) ∙ depth_is base k.f in
     blamed_along src base span x _ e (much_blame src base seen span x p k (inl (open_is, subst (λ (n : ℕ). 64 ≤ n) depth d)))
 blame_at src base seen span x p k (By_length l to h e) =
     let long : p.s.long ≡ expression k.f = (let F : Shape → ℕ = λ z. z.long in ap F (sym k.keeps)) ∙ long_is base k.f in
-    let g : Grown base k.f (token_of src span) to = grows base k.f (token_of src span) (taken p.s (token_of src span).spot (token_of src span).sign) to k.sound h in
+    let g : Grown base k.f (token_of src span) to = grows base k.f (token_of src span) (taken p.s (token_of src span).spot (token_of src span).terminal) to k.sound h in
     blamed_along src base span x _ e (much_blame src base seen span x p k (inr (subst (λ (n : ℕ). 4096 ≤ n) long l, (g.g, g.spells))))
 blame_at src base seen span x p k (By_length_misfit l y h n e) =
     let long : p.s.long ≡ expression k.f = (let F : Shape → ℕ = λ z. z.long in ap F (sym k.keeps)) ∙ long_is base k.f in
     let g : (g : Front base) × (spell_front g ≡ token_of src span ∷ spell_front k.f) =
-    length_front base k.f (token_of src span) y y.rule refl n (sound_err base k.f (token_of src span) (taken p.s (token_of src span).spot (token_of src span).sign) y k.sound h) in
+    length_front base k.f (token_of src span) y y.rule refl n (sound_err base k.f (token_of src span) (taken p.s (token_of src span).spot (token_of src span).terminal) y k.sound h) in
     blamed_along src base span x _ e (much_blame src base seen span x p k (inr (subst (λ (n : ℕ). 4096 ≤ n) long l, g)))
 blame_at src base seen span x p k (By_token h) =
-    token_blame src base seen span x p k x.rule refl (sound_err base k.f (token_of src span) (taken p.s (token_of src span).spot (token_of src span).sign) x k.sound h)
+    token_blame src base seen span x p k x.rule refl (sound_err base k.f (token_of src span) (taken p.s (token_of src span).spot (token_of src span).terminal) x k.sound h)
 
 pub blame : (src : List ℕ) (base : Bool) (seen : List Token) (span : Span) (x : Fault) (p : Stop src base seen span x) → Blamed src base span x
 blame src base seen span x p = blame_at src base seen span x p (stands src base seen span x p) (stopped p.s (token_of src span) x p.stops)
@@ -431,10 +431,10 @@ least_five_inner src base seen span x p at w l (Refer i q) o mid after span' ext
     let n : q.at ≡ span'.start = ap (λ z. z.spot.at) last in
     inl (omega (arith, b.most, r.to, t.from, n, place_is, far))
 least_five_inner src base seen span x p at w l (Group g i is_ f) o mid after span' ext h is last place_is parts far end =
-    let d : Behind (spell i (token sign.LeftRound g ∷ spell_listed l)) (token sign.LeftRound g ∷ spell_listed l) = spell_behind i (token sign.LeftRound g ∷ spell_listed l) in
-    let c : Prefix src (token sign.LeftRound g ∷ spell_listed l) mid = prefix src d.ext (token sign.LeftRound g ∷ spell_listed l) mid (subst (λ (z : List Token). AreTokens src z mid) d.parts h) in
-    let v : Follows src (spell_listed l) (token sign.LeftRound g) c.left = follows src (spell_listed l) (token sign.LeftRound g) c.left c.tokens in
-    let stopped_at : walk base (spell i (token sign.LeftRound g ∷ spell_listed l)) ≡ halt x = ap (λ ts. walk base ts) parts ∙ err_prefix base ext (token_of src span ∷ seen) x (stop_walk src base seen span x p) in
+    let d : Behind (spell i (token terminal.LeftRound g ∷ spell_listed l)) (token terminal.LeftRound g ∷ spell_listed l) = spell_behind i (token terminal.LeftRound g ∷ spell_listed l) in
+    let c : Prefix src (token terminal.LeftRound g ∷ spell_listed l) mid = prefix src d.ext (token terminal.LeftRound g ∷ spell_listed l) mid (subst (λ (z : List Token). AreTokens src z mid) d.parts h) in
+    let v : Follows src (spell_listed l) (token terminal.LeftRound g) c.left = follows src (spell_listed l) (token terminal.LeftRound g) c.left c.tokens in
+    let stopped_at : walk base (spell i (token terminal.LeftRound g ∷ spell_listed l)) ≡ halt x = ap (λ ts. walk base ts) parts ∙ err_prefix base ext (token_of src span ∷ seen) x (stop_walk src base seen span x p) in
     elim (position src base seen p.left p.s p.tokens p.walk_is (spell_listed l) v.left v.tokens) [
       | Inside t s next k h' ↦ (let m : (y : Shape) × (walk base (spell_listed l) ≡ Ok y) = ok_prefix base (t ∷ []) (spell_listed l) s k in
           inl (limit_before src base seen span x p at o (inner_stops base w l g i m.0 x is_ m.1 stopped_at) end))

@@ -4,16 +4,16 @@ use Rattle.dts_parse.specs.Exprs.{Waiting, Start, In_round, In_un, In_bin, In_co
 use Rattle.dts_parse.specs.Fronts.{Beginning, Begun, First_number, Second_number, Deleted_ref, Omitted_ref, Deleted_child, Deleted_prop, Front, In_body, At_name, At_brace, At_directive, At_end, At_site, At_colon, At_bits, At_angle, Before_operand, After_operand, Listed, Opening, Root_, Ref_, Site, In_value, After_part, In_list, In_hex, braces, directive_place, fits_lead, may_name, opening_token, spell_beginning, spell_begun, spell_front, spell_list, spell_listed, spell_site, takes_begun, wanted_of}
 use Rattle.dts_parse.specs.Inner.Machine.{Shape, taken}
 use Rattle.dts_parse.specs.Statements.{AreFit, Lead, No_lead, Label_lead, Mark_lead, Small_, Large_, Pieces, Nothing_yet, Short_, Open_root, Open_ref, Open_child, Flag_, Assign_, Place, Short, Version_, Plugin_, Reserve_, Delete_ref, Omit_ref, Delete_child, Delete_prop, End_node, is_empty, labels_of, marks_of, place, script, spell_lead, spell_pieces, spell_short, takes_inner, takes_short, takes_top, takes_version}
-use Rattle.dts_parse.specs.Token.{Name, Spot, is_node_form, is_prop_form, bin_sign, name_token, op_level, token}
+use Rattle.dts_parse.specs.Token.{Name, Spot, is_node_form, is_prop_form, bin_terminal, name_token, op_level, token}
 use Rattle.dts_parse.specs.Values.{Before, Labels, No_labels, bytes_of, cells_of, listing_of, pair_bytes, part_of, parts_of}
 use Rattle.dts_parse.specs.declared.mode.Frame.TheVariants as frame
 use Rattle.dts_parse.specs.declared.mode.Listing.TheVariants as listing
 use Rattle.dts_parse.specs.declared.mode.Mode.TheVariants as mode
 use Rattle.dts_parse.specs.declared.mode.Wanted.TheVariants as wanted
-use Rattle.dts_parse.specs.declared.sign.Form.{Form}
-use Rattle.dts_parse.specs.declared.sign.Form.TheVariants as form
-use Rattle.dts_parse.specs.declared.sign.Sign.TheVariants as sign
-use Rattle.dts_parse.specs.declared.sign.Width.{Width}
+use Rattle.dts_parse.specs.declared.terminal.Form.{Form}
+use Rattle.dts_parse.specs.declared.terminal.Form.TheVariants as form
+use Rattle.dts_parse.specs.declared.terminal.Terminal.TheVariants as terminal
+use Rattle.dts_parse.specs.declared.terminal.Width.{Width}
 use Rattle.dts_parse.proofs.ExprReads.{chooses, closes, joins, level_range, no_include, op_range, operand_at, reads, reads_un, room_of, stays, tests}
 use Rattle.dts_parse.proofs.Kept.{ending, frames_of, kept, kept_site, opening_stmt, resting, spine}
 use Rattle.dts_parse.proofs.Leading.{Reads, go, hop}
@@ -82,43 +82,43 @@ reads_lead base ps (Label_lead lead n c) may h =
     let named : Reads true base (name_token form.Label n ∷ spell_lead lead (spell_pieces ps)) (record (leading base ps lead) { mode = mode.Named form.Label; name = Some n.spot }) =
     hop (name_token form.Label n) (reads_lead base ps lead (fits_before (place base ps) lead may) h) refl
     (if_true (may_name (place base ps) (is_empty (marks_of lead)) form.Label) _ _ (may_label (takes_inner (place base ps)) (is_empty (marks_of lead)) (takes_top (place base ps)) may)) in
-    hop (token sign.Colon c) named refl refl
+    hop (token terminal.Colon c) named refl refl
 reads_lead base ps (Mark_lead lead d) may h =
-    hop (token sign.Omit d) (reads_lead base ps lead (fits_inner (place base ps) lead may) h) refl (if_true (takes_inner (place base ps)) _ _ may)
+    hop (token terminal.Omit d) (reads_lead base ps lead (fits_inner (place base ps) lead may) h) refl (if_true (takes_inner (place base ps)) _ _ may)
 
 -- ---- statements that only want their semicolon
 
 reads_reserve : (base : Bool) (ps : Pieces) (d : Spot) → takes_top (place base ps) ≡ true → Reads true base (spell_pieces ps) (resting base ps)
-    → Reads true base (token sign.Reserve d ∷ spell_pieces ps) (record (resting base ps) { mode = mode.Directive wanted.FirstNumber; begin = d.at })
-reads_reserve base ps d may h = hop (token sign.Reserve d) h refl (if_true (takes_top (place base ps)) _ _ may)
+    → Reads true base (token terminal.Reserve d ∷ spell_pieces ps) (record (resting base ps) { mode = mode.Directive wanted.FirstNumber; begin = d.at })
+reads_reserve base ps d may h = hop (token terminal.Reserve d) h refl (if_true (takes_top (place base ps)) _ _ may)
 
 pub reads_begun : (base : Bool) (ps : Pieces) (b : Begun) → takes_begun (place base ps) b ≡ true → Reads true base (spell_pieces ps) (resting base ps)
     → Reads true base (spell_begun b (spell_pieces ps)) (record (resting base ps) { mode = mode.Directive (wanted_of b); begin = directive_place b })
 reads_begun base ps (First_number d) may h = reads_reserve base ps d may h
 reads_begun base ps (Second_number d (Small_ n) p) may h =
-    hop (token (sign.Number n) p) (reads_reserve base ps d may h) refl refl
+    hop (token (terminal.Number n) p) (reads_reserve base ps d may h) refl refl
 reads_begun base ps (Second_number d Large_ p) may h =
-    hop (token sign.Huge p) (reads_reserve base ps d may h) refl refl
+    hop (token terminal.Huge p) (reads_reserve base ps d may h) refl refl
 reads_begun base ps (Deleted_ref d) may h =
-    hop (token sign.DeleteNode d) h refl
+    hop (token terminal.DeleteNode d) h refl
     (if_false (takes_inner (place base ps)) _ _ (top_not_inner (is_empty (place base ps).opened) _ may) ∙ if_true (takes_top (place base ps)) _ _ may)
 reads_begun base ps (Omitted_ref d) may h =
-    hop (token sign.Omit d) h refl
+    hop (token terminal.Omit d) h refl
     (if_false (takes_inner (place base ps)) _ _ (top_not_inner (is_empty (place base ps).opened) _ may) ∙ if_true (takes_top (place base ps)) _ _ may)
-reads_begun base ps (Deleted_child d) may h = hop (token sign.DeleteNode d) h refl (if_true (takes_inner (place base ps)) _ _ may)
-reads_begun base ps (Deleted_prop d) may h = hop (token sign.DeleteProp d) h refl (if_true (takes_inner (place base ps)) _ _ may)
+reads_begun base ps (Deleted_child d) may h = hop (token terminal.DeleteNode d) h refl (if_true (takes_inner (place base ps)) _ _ may)
+reads_begun base ps (Deleted_prop d) may h = hop (token terminal.DeleteProp d) h refl (if_true (takes_inner (place base ps)) _ _ may)
 
 pub reads_short : (base : Bool) (ps : Pieces) (s : Short) → takes_short (place base ps) s ≡ true → Reads true base (spell_pieces ps) (resting base ps)
     → Reads true base (spell_short s (spell_pieces ps)) (ending base ps s)
-reads_short base ps (Version_ d) may h = hop (token sign.Version d) h refl (if_true (takes_version (place base ps)) _ _ may)
-reads_short base ps (Plugin_ d) may h = hop (token sign.Plugin d) h refl (if_true (takes_top (place base ps)) _ _ may)
-reads_short base ps (Reserve_ d m p (Small_ n) q) may h = hop (token (sign.Number n) q) (reads_begun base ps (Second_number d m p) may h) refl refl
-reads_short base ps (Reserve_ d m p Large_ q) may h = hop (token sign.Huge q) (reads_begun base ps (Second_number d m p) may h) refl refl
-reads_short base ps (Delete_ref d p) may h = hop (token sign.Ref p) (reads_begun base ps (Deleted_ref d) may h) refl refl
-reads_short base ps (Omit_ref d p) may h = hop (token sign.Ref p) (reads_begun base ps (Omitted_ref d) may h) refl refl
+reads_short base ps (Version_ d) may h = hop (token terminal.Version d) h refl (if_true (takes_version (place base ps)) _ _ may)
+reads_short base ps (Plugin_ d) may h = hop (token terminal.Plugin d) h refl (if_true (takes_top (place base ps)) _ _ may)
+reads_short base ps (Reserve_ d m p (Small_ n) q) may h = hop (token (terminal.Number n) q) (reads_begun base ps (Second_number d m p) may h) refl refl
+reads_short base ps (Reserve_ d m p Large_ q) may h = hop (token terminal.Huge q) (reads_begun base ps (Second_number d m p) may h) refl refl
+reads_short base ps (Delete_ref d p) may h = hop (token terminal.Ref p) (reads_begun base ps (Deleted_ref d) may h) refl refl
+reads_short base ps (Omit_ref d p) may h = hop (token terminal.Ref p) (reads_begun base ps (Omitted_ref d) may h) refl refl
 reads_short base ps (Delete_child d f n is) may h = hop (name_token f n) (reads_begun base ps (Deleted_child d) may h) refl (if_true (is_node_form f) _ _ is)
 reads_short base ps (Delete_prop d f n is) may h = hop (name_token f n) (reads_begun base ps (Deleted_prop d) may h) refl (if_true (is_prop_form f) _ _ is)
-reads_short base ps (End_node brace) may h = hop (token sign.RightBrace brace) h refl (if_true (takes_inner (place base ps)) _ _ may)
+reads_short base ps (End_node brace) may h = hop (token terminal.RightBrace brace) h refl (if_true (takes_inner (place base ps)) _ _ may)
 
 -- ---- names and openings
 
@@ -136,7 +136,7 @@ or_last : (a b : Bool) → b ≡ true → (a || b) ≡ true
 or_last true b e = refl
 or_last false b e = e
 
--- behind labels alone a property, or a node
+-- after labels alone a property, or a node
 reads_prop_name : (base : Bool) (ps : Pieces) (lead : Lead) (f : Form) (n : Name f) → takes_inner (place base ps) ≡ true → is_empty (marks_of lead) ≡ true → Reads true base (spell_pieces ps) (resting base ps)
     → Reads true base (name_token f n ∷ spell_lead lead (spell_pieces ps)) (record (leading base ps lead) { mode = mode.Named f; name = Some n.spot })
 reads_prop_name base ps lead f n inner bare h =
@@ -152,10 +152,10 @@ reads_node_name base ps lead f n inner node h =
 pub reads_opening : (base : Bool) (ps : Pieces) (lead : Lead) (o : Opening) → takes_top (place base ps) ≡ true → is_empty (marks_of lead) ≡ true → Reads true base (spell_pieces ps) (resting base ps)
     → Reads true base (opening_token o ∷ spell_lead lead (spell_pieces ps)) (record (resting base ps) { mode = mode.Opening; out = (script base ps ++ opening_stmt o ∷ []) ++ labels_of lead })
 reads_opening base ps lead (Root_ p) top bare h =
-    hop (token sign.Slash p) (reads_lead base ps lead (fits_top (place base ps) lead top bare) h) refl
+    hop (token terminal.Slash p) (reads_lead base ps lead (fits_top (place base ps) lead top bare) h) refl
     (if_true (takes_top (place base ps) && is_empty (marks_of lead)) _ _ (and_both (takes_top (place base ps)) (is_empty (marks_of lead)) top bare))
 reads_opening base ps lead (Ref_ p) top bare h =
-    hop (token sign.Ref p) (reads_lead base ps lead (fits_top (place base ps) lead top bare) h) refl
+    hop (token terminal.Ref p) (reads_lead base ps lead (fits_top (place base ps) lead top bare) h) refl
     (if_true (takes_top (place base ps) && is_empty (marks_of lead)) _ _ (and_both (takes_top (place base ps)) (is_empty (marks_of lead)) top bare))
 
 abbrev naming : (base : Bool) (ps : Pieces) (lead : Lead) (f : Form) → Name f → Shape
@@ -166,30 +166,30 @@ is_prop_at inner bare prop a b c = and_both (inner && bare) prop (and_both inner
 
 reads_equal : (base : Bool) (ps : Pieces) (lead : Lead) (f : Form) (n : Name f) (equal : Spot) → takes_inner (place base ps) ≡ true → is_empty (marks_of lead) ≡ true → is_prop_form f ≡ true
     → Reads true base (spell_pieces ps) (resting base ps)
-    → Reads true base (token sign.Equal equal ∷ name_token f n ∷ spell_lead lead (spell_pieces ps)) (record (resting base ps) { mode = mode.Value; name = Some n.spot })
+    → Reads true base (token terminal.Equal equal ∷ name_token f n ∷ spell_lead lead (spell_pieces ps)) (record (resting base ps) { mode = mode.Value; name = Some n.spot })
 reads_equal base ps lead f n equal inner bare is h =
-    hop (token sign.Equal equal) (reads_prop_name base ps lead f n inner bare h) refl
+    hop (token terminal.Equal equal) (reads_prop_name base ps lead f n inner bare h) refl
     (if_true (takes_inner (place base ps) && is_empty (marks_of lead) && is_prop_form f) _ _ (is_prop_at (takes_inner (place base ps)) (is_empty (marks_of lead)) (is_prop_form f) inner bare is))
 
 -- ---- pieces
 
 pub reads_pieces : (base : Bool) (ps : Pieces) → AreFit base ps → Reads true base (spell_pieces ps) (resting base ps)
 reads_pieces base Nothing_yet fit = record { is = refl }
-reads_pieces base (Short_ ps s semicolon) fit = hop (token sign.Semicolon semicolon) (reads_short base ps s fit.1 (reads_pieces base ps fit.0)) refl refl
+reads_pieces base (Short_ ps s semicolon) fit = hop (token terminal.Semicolon semicolon) (reads_short base ps s fit.1 (reads_pieces base ps fit.0)) refl refl
 reads_pieces base (Open_root ps lead slash brace) fit =
-    hop (token sign.LeftBrace brace) (reads_opening base ps lead (Root_ slash) fit.1 fit.2 (reads_pieces base ps fit.0)) refl refl
+    hop (token terminal.LeftBrace brace) (reads_opening base ps lead (Root_ slash) fit.1 fit.2 (reads_pieces base ps fit.0)) refl refl
 reads_pieces base (Open_ref ps lead ref brace) fit =
-    hop (token sign.LeftBrace brace) (reads_opening base ps lead (Ref_ ref) fit.1 fit.2 (reads_pieces base ps fit.0)) refl refl
+    hop (token terminal.LeftBrace brace) (reads_opening base ps lead (Ref_ ref) fit.1 fit.2 (reads_pieces base ps fit.0)) refl refl
 reads_pieces base (Open_child ps lead f n brace) fit =
-    hop (token sign.LeftBrace brace) (reads_node_name base ps lead f n fit.1 fit.2 (reads_pieces base ps fit.0)) refl
+    hop (token terminal.LeftBrace brace) (reads_node_name base ps lead f n fit.1 fit.2 (reads_pieces base ps fit.0)) refl
     (if_true (takes_inner (place base ps) && is_node_form f) _ _ (and_both (takes_inner (place base ps)) (is_node_form f) fit.1 fit.2))
 reads_pieces base (Flag_ ps lead f n semicolon) fit =
-    hop (token sign.Semicolon semicolon) (reads_prop_name base ps lead f n fit.1 fit.2 (reads_pieces base ps fit.0)) refl
+    hop (token terminal.Semicolon semicolon) (reads_prop_name base ps lead f n fit.1 fit.2 (reads_pieces base ps fit.0)) refl
     (if_true (takes_inner (place base ps) && is_empty (marks_of lead) && is_prop_form f) _ _ (is_prop_at (takes_inner (place base ps)) (is_empty (marks_of lead)) (is_prop_form f) fit.1 fit.2 fit.3))
 reads_pieces base (Assign_ ps lead f n equal b ls part after semicolon) fit =
     let s : Shape = record (resting base ps) { mode = mode.Value; name = Some n.spot } in
-    let begun : Reads true base (token sign.Equal equal ∷ name_token f n ∷ spell_lead lead (spell_pieces ps)) s = reads_equal base ps lead f n equal fit.1 fit.2 fit.3 (reads_pieces base ps fit.0) in
-    hop (token sign.Semicolon semicolon)
+    let begun : Reads true base (token terminal.Equal equal ∷ name_token f n ∷ spell_lead lead (spell_pieces ps)) s = reads_equal base ps lead f n equal fit.1 fit.2 fit.3 (reads_pieces base ps fit.0) in
+    hop (token terminal.Semicolon semicolon)
     (part_labels base after s (parts_of b ++ part_of part ∷ []) _
     (reads_written base s (parts_of b) part _ (value_labels base ls s (parts_of b) _ (reads_before base s b _ begun))))
     refl refl
@@ -218,8 +218,8 @@ reads_site base (After_part top b ls part after) =
     part_labels base after (context base top) (parts_of b ++ part_of part ∷ []) _ (reads_written base (context base top) (parts_of b) part _ (reads_value base top b ls))
 reads_site base (In_list w l) = reads_listed base w l
 reads_site base (In_hex top b ls begin ps now) =
-    let opened : Reads true base (token sign.LeftSquare begin ∷ spell_site (In_value top b ls)) (pairs_at (context base top) (parts_of b) listing.Empty []) =
-    hop (token sign.LeftSquare begin) (reads_value base top b ls) refl refl in
+    let opened : Reads true base (token terminal.LeftSquare begin ∷ spell_site (In_value top b ls)) (pairs_at (context base top) (parts_of b) listing.Empty []) =
+    hop (token terminal.LeftSquare begin) (reads_value base top b ls) refl refl in
     pairs_labels base ps now (context base top) (parts_of b) (pair_bytes ps) _ (reads_pairs base (context base top) (parts_of b) ps _ opened)
 
 -- an open expression
@@ -235,30 +235,30 @@ room_is (In_cond w c q) = refl
 room_is (In_else w c q a k) = refl
 
 reads_question : (base : Bool) (w : Width) (l : Listed base w) (begin : Spot) (x : Waiting) (c : Tree) (q : Spot) → level c ≤ 11 → 12 ≤ room_of (frames_of x) → IsProper c
-    → Reads true base (spell_waiting x (token sign.LeftRound begin ∷ spell_listed l))
+    → Reads true base (spell_waiting x (token terminal.LeftRound begin ∷ spell_listed l))
     (operand_at (inner_at base w l begin) w (rounds x (suc (suc (braces l.top)))) (large_waiting x) (count_waiting x 1) (frames_of x))
-    → Reads true base (token sign.Question q ∷ spell c (spell_waiting x (token sign.LeftRound begin ∷ spell_listed l)))
+    → Reads true base (token terminal.Question q ∷ spell c (spell_waiting x (token terminal.LeftRound begin ∷ spell_listed l)))
     (operand_at (inner_at base w l begin) w (rounds x (suc (suc (braces l.top)))) (large c (large_waiting x)) (more (count c (count_waiting x 1))) (frame.Cond (worth_of c) ∷ frames_of x))
 reads_question base w l begin x c q below room_ is h =
     let s : Shape = inner_at base w l begin in
     let d : ℕ = rounds x (suc (suc (braces l.top))) in
-    go (token sign.Question q)
+    go (token terminal.Question q)
     (reads true base c s w d (large_waiting x) (count_waiting x 1) (frames_of x) _ is (omega arith) h)
     refl
     (tests true s w d (large c (large_waiting x)) (count c (count_waiting x 1)) (frames_of x) q (worth_of c) (spine c (frames_of x))
     (closes c 11 (frames_of x) is below ∙ stays 11 (frames_of x) (worth_of c) (omega arith) (omega arith) (omega arith)))
 
-waits_at : (base : Bool) (s : Site base) (n : Name form.Label) → taken (kept_site s) n.spot (sign.Name form.Label) ≡ Ok (record (kept_site s) { colon = true })
+waits_at : (base : Bool) (s : Site base) (n : Name form.Label) → taken (kept_site s) n.spot (terminal.Name form.Label) ≡ Ok (record (kept_site s) { colon = true })
 waits_at base (In_value top b ls) n = refl
 waits_at base (After_part top b ls part after) n = refl
 waits_at base (In_list w l) n = refl
 waits_at base (In_hex top b ls begin ps now) n = refl
 
 pub reads_waiting : (base : Bool) (w : Width) (l : Listed base w) (begin : Spot) (x : Waiting) → AreProper x
-    → Reads true base (spell_waiting x (token sign.LeftRound begin ∷ spell_listed l))
+    → Reads true base (spell_waiting x (token terminal.LeftRound begin ∷ spell_listed l))
     (operand_at (inner_at base w l begin) w (rounds x (suc (suc (braces l.top)))) (large_waiting x) (count_waiting x 1) (frames_of x))
-reads_waiting base w l begin Start proper = hop (token sign.LeftRound begin) (reads_listed base w l) refl refl
-reads_waiting base w l begin (In_round x b) proper = hop (token sign.LeftRound b) (reads_waiting base w l begin x proper) refl refl
+reads_waiting base w l begin Start proper = hop (token terminal.LeftRound begin) (reads_listed base w l) refl refl
+reads_waiting base w l begin (In_round x b) proper = hop (token terminal.LeftRound b) (reads_waiting base w l begin x proper) refl refl
 reads_waiting base w l begin (In_un x o p) proper =
     reads_un true base (inner_at base w l begin) w (rounds x (suc (suc (braces l.top)))) (large_waiting x) (count_waiting x 1) (frames_of x) _ o p (reads_waiting base w l begin x proper.1)
 reads_waiting base w l begin (In_bin x e o p) proper =
@@ -266,7 +266,7 @@ reads_waiting base w l begin (In_bin x e o p) proper =
     let d : ℕ = rounds x (suc (suc (braces l.top))) in
     let range : (2 ≤ op_level o) × (op_level o ≤ 11) = op_range o in
     let room_ : op_level o ≤ room_of (frames_of x) = subst (λ (n : ℕ). op_level o ≤ n) (sym (room_is x)) proper.0 in
-    go (token (bin_sign o) p)
+    go (token (bin_terminal o) p)
     (reads true base e s w d (large_waiting x) (count_waiting x 1) (frames_of x) _ proper.2 (omega arith) (reads_waiting base w l begin x proper.3))
     (no_include o)
     (joins true s w d (large e (large_waiting x)) (count e (count_waiting x 1)) (frames_of x) o p (worth_of e) (spine e (frames_of x))
@@ -280,7 +280,7 @@ reads_waiting base w l begin (In_else x c q a k) proper =
     let room_ : 12 ≤ room_of (frames_of x) = subst (λ (n : ℕ). 12 ≤ n) (sym (room_is x)) proper.0 in
     let h : Bool = large c (large_waiting x) in
     let n : ℕ = more (count c (count_waiting x 1)) in
-    go (token sign.Colon k)
+    go (token terminal.Colon k)
     (reads true base a s w d h n (frame.Cond (worth_of c) ∷ frames_of x) _ proper.3 (level_range a) (reads_question base w l begin x c q proper.1 room_ proper.2 (reads_waiting base w l begin x proper.4)))
     refl
     (chooses true s w d (large a h) (count a n) (frames_of x) k (worth_of c) (worth_of a) (spine a (frame.Cond (worth_of c) ∷ frames_of x))

@@ -22,7 +22,7 @@ frames_of (In_bin w l o p) = frame.Bin o (worth_of l) ∷ frames_of w
 frames_of (In_cond w c q) = frame.Cond (worth_of c) ∷ frames_of w
 frames_of (In_else w c q a k) = frame.Else (worth_of c) (worth_of a) ∷ frames_of w
 
--- the cases that are open behind an expression, down its right side, and the worth of the last operand
+-- the cases that are open after an expression, down its right side, and the worth of the last operand
 abbrev pub spine : Tree → List Frame → Climbed
 spine (Num l p) fs = record { left = fs; worth = literal_worth l }
 spine (Round begin e finish) fs = record { left = fs; worth = worth_of e }

@@ -51,13 +51,13 @@ leads_include : (q : Bool) (b : Bool) (p : Spot) (x : Step) (to : Shape) → b �
 leads_include q true p x to e h = cc
 leads_include q false p x to e h = h
 
-pub leads_step : (q : Bool) (s : Shape) (t : Token) (to : Shape) → is_include t.sign ≡ false → Leads q (taken s t.spot t.sign) to → Leads q (step s t) to
+pub leads_step : (q : Bool) (s : Shape) (t : Token) (to : Shape) → is_include t.terminal ≡ false → Leads q (taken s t.spot t.terminal) to → Leads q (step s t) to
 leads_step q s t to e h =
-    leads_include q (is_include t.sign) t.spot _ to e
-    (leads_deep q (is_opening (in_rounds s.mode) t.sign && nat_le 64 s.depth) t.spot _ to
-    (leads_long q (nat_le 4096 s.long) t.spot (taken s t.spot t.sign) to h))
+    leads_include q (is_include t.terminal) t.spot _ to e
+    (leads_deep q (is_opening (in_rounds s.mode) t.terminal && nat_le 64 s.depth) t.spot _ to
+    (leads_long q (nat_le 4096 s.long) t.spot (taken s t.spot t.terminal) to h))
 
-go_on : (q : Bool) (r : Step) (s : Shape) (t : Token) (to : Shape) → Leads q r s → is_include t.sign ≡ false → Leads q (taken s t.spot t.sign) to
+go_on : (q : Bool) (r : Step) (s : Shape) (t : Token) (to : Shape) → Leads q r s → is_include t.terminal ≡ false → Leads q (taken s t.spot t.terminal) to
     → Leads q (step_on t r) to
 go_on q (Ok x) s t to h e k = let P : Shape → Type 0 = λ y. Leads q (step y t) to in subst P (sym h) (leads_step q s t to e k)
 go_on q (Err f) s t to h e k = h
@@ -68,16 +68,16 @@ pub record Reads (q base : Bool) (tokens : List Token) (to : Shape) : Type 0 whe
 
 -- one token leads from a shape to another
 pub record Moves (q : Bool) (s : Shape) (t : Token) (to : Shape) : Type 0 where
-  pub is : Leads q (taken s t.spot t.sign) to
+  pub is : Leads q (taken s t.spot t.terminal) to
 
 -- one token more
-pub go : {q base : Bool} {before : List Token} {s : Shape} {to : Shape} (t : Token) → Reads q base before s → is_include t.sign ≡ false → Moves q s t to → Reads q base (t ∷ before) to
+pub go : {q base : Bool} {before : List Token} {s : Shape} {to : Shape} (t : Token) → Reads q base before s → is_include t.terminal ≡ false → Moves q s t to → Reads q base (t ∷ before) to
 go {q = q} {base = base} {before = before} {s = s} {to = to} t h e k = record { is = go_on q (walk base before) s t to h.is e k.is }
 
-pub moves : {q : Bool} {s to : Shape} (t : Token) → taken s t.spot t.sign ≡ Ok to → Moves q s t to
-moves {q = q} {s = s} {to = to} t e = record { is = leads_is q (taken s t.spot t.sign) (Ok to) to e refl }
+pub moves : {q : Bool} {s to : Shape} (t : Token) → taken s t.spot t.terminal ≡ Ok to → Moves q s t to
+moves {q = q} {s = s} {to = to} t e = record { is = leads_is q (taken s t.spot t.terminal) (Ok to) to e refl }
 
-pub hop : {q base : Bool} {before : List Token} {s : Shape} {to : Shape} (t : Token) → Reads q base before s → is_include t.sign ≡ false → taken s t.spot t.sign ≡ Ok to → Reads q base (t ∷ before) to
+pub hop : {q base : Bool} {before : List Token} {s : Shape} {to : Shape} (t : Token) → Reads q base before s → is_include t.terminal ≡ false → taken s t.spot t.terminal ≡ Ok to → Reads q base (t ∷ before) to
 hop t h e k = go t h e (moves t k)
 
 pub reads_at : {q base : Bool} {tokens : List Token} {s s' : Shape} → s ≡ s' → Reads q base tokens s → Reads q base tokens s'

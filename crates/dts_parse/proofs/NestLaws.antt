@@ -15,10 +15,10 @@ use Rattle.dts_parse.specs.Values.{Before, Nothing, Comma_, Lone, Group, Refer, 
 use Rattle.dts_parse.specs.declared.script.RawCell.{RawCell}
 use Rattle.dts_parse.specs.declared.script.Target.{Target}
 use Rattle.dts_parse.specs.declared.script.Target.TheVariants as target
-use Rattle.dts_parse.specs.declared.sign.Form.{Form}
-use Rattle.dts_parse.specs.declared.sign.Form.TheVariants as form
-use Rattle.dts_parse.specs.declared.sign.Width.{Width}
-use Rattle.dts_parse.specs.declared.sign.Width.TheVariants.{Bits8, Bits16, Bits32, Bits64}
+use Rattle.dts_parse.specs.declared.terminal.Form.{Form}
+use Rattle.dts_parse.specs.declared.terminal.Form.TheVariants as form
+use Rattle.dts_parse.specs.declared.terminal.Width.{Width}
+use Rattle.dts_parse.specs.declared.terminal.Width.TheVariants.{Bits8, Bits16, Bits32, Bits64}
 
 -- ---- lists of statements
 

@@ -26,7 +26,7 @@ left_same src (t ∷ b) l m (h, s, p, e, q) (k, s', p', e', q') =
     let both : (s, l) ≡ (s', m) = pair_same (next_of k) (s, l) (s', m) (subst (λ (x : Left). next_of x ≡ Ok (Some (s, l))) mids e) e' in
     ap (λ x. x.1) both
 
--- the token behind them, and what is left behind it
+-- the token after them, and what is left after it
 pub record Follows (src : List ℕ) (b : List Token) (t : Token) (after : Left) : Type 0 where
   pub left : Left
   pub span : Span

@@ -3,14 +3,14 @@ use Rattle.std.proofs.Common.{◌≡◌, ◌<◌, ◌≤◌, ℕ, Bool, true, Li
 use Rattle.dts_lex.specs.Left.{Left}
 use Rattle.dts_parse.specs.Nested.{AreRising, IsNested, act_refs, is_reference, refs}
 use Rattle.dts_parse.specs.Source.{AreTokens, IsScript}
-use Rattle.dts_parse.specs.Statements.{Lead, No_lead, Label_lead, Mark_lead, Pieces, Nothing_yet, Short_, Open_root, Open_ref, Open_child, Flag_, Assign_, Place, Short, Version_, Plugin_, Reserve_, Delete_ref, Omit_ref, Delete_child, Delete_prop, End_node, head, labels_of, marks_of, numeral_sign, omits, place, place_behind, script, spell_lead, spell_pieces, spell_short, tail, with_short}
+use Rattle.dts_parse.specs.Statements.{Lead, No_lead, Label_lead, Mark_lead, Pieces, Nothing_yet, Short_, Open_root, Open_ref, Open_child, Flag_, Assign_, Place, Short, Version_, Plugin_, Reserve_, Delete_ref, Omit_ref, Delete_child, Delete_prop, End_node, head, labels_of, marks_of, numeral_terminal, omits, place, place_behind, script, spell_lead, spell_pieces, spell_short, tail, with_short}
 use Rattle.dts_parse.specs.StmtData.{ActData, StmtData, Open, Close, DelNode, Omit, stmt}
 use Rattle.dts_parse.specs.Texts.{target_of}
 use Rattle.dts_parse.specs.Token.{Spot, Token, token}
 use Rattle.dts_parse.specs.Values.{Before, Nothing, Comma_, Element, Lone, Group, Refer, Elements, None_yet, Then, Head, Angle_, Bits_, Labels, No_labels, Label_, Pairs, No_pair, And_pair, Written, Text_, Path_, List_, Hex_, spell_before, spell_element, spell_elements, spell_head, spell_labels, spell_pairs, spell_written}
 use Rattle.dts_parse.specs.declared.script.Target.{Target}
-use Rattle.dts_parse.specs.declared.sign.Sign.TheVariants as sign
-use Rattle.dts_parse.specs.declared.sign.Width.{Width}
+use Rattle.dts_parse.specs.declared.terminal.Terminal.TheVariants as terminal
+use Rattle.dts_parse.specs.declared.terminal.Width.{Width}
 use Rattle.dts_parse.proofs.Elements.{Behind, behind_on, behind_one, spell_behind}
 use Rattle.dts_parse.proofs.NestLaws.{refs_append, target_reference, whole_nests}
 use Rattle.dts_parse.proofs.Order.{Follows, Places, Prefix, follows, places, prefix}
@@ -94,7 +94,7 @@ stack_bare base (Open_child ps lead f n brace) = (omits_bare (marks_of lead) n.s
 stack_bare base (Flag_ ps lead f n semicolon) = stack_bare base ps
 stack_bare base (Assign_ ps lead f n equal b ls part after semicolon) = stack_bare base ps
 
--- ---- what is spelled stands behind what was before
+-- ---- what is spelled stands after what was before
 
 behind_none : (b : List Token) → Behind b b
 behind_none b = record { ext = []; parts = refl }
@@ -117,7 +117,7 @@ labels_behind (Label_ ls n c) b = two _ _ _ b (labels_behind ls b)
 element_behind : (w : Width) (e : Element w) (b : List Token) → Behind (spell_element e b) b
 element_behind w (Lone l p) b = behind_one _ b
 element_behind w (Refer is p) b = behind_one _ b
-element_behind w (Group g e is f) b = one _ _ b (behind_on _ _ b (spell_behind e (token sign.LeftRound g ∷ b)) (behind_one (token sign.LeftRound g) b))
+element_behind w (Group g e is f) b = one _ _ b (behind_on _ _ b (spell_behind e (token terminal.LeftRound g ∷ b)) (behind_one (token terminal.LeftRound g) b))
 
 elements_behind : (w : Width) (es : Elements w) (b : List Token) → Behind (spell_elements es b) b
 elements_behind w None_yet b = behind_none b
@@ -129,7 +129,7 @@ pairs_behind (And_pair ps ls byte p) b = one _ _ b (behind_on _ _ b (labels_behi
 
 head_behind : (w : Width) (h : Head w) (b : List Token) → Behind (spell_head h b) b
 head_behind w (Angle_ is g) b = behind_one _ b
-head_behind w (Bits_ d n is q g) b = record { ext = token sign.Less g ∷ token (sign.Number n) q ∷ token sign.Bits d ∷ []; parts = refl }
+head_behind w (Bits_ d n is q g) b = record { ext = token terminal.Less g ∷ token (terminal.Number n) q ∷ token terminal.Bits d ∷ []; parts = refl }
 
 written_behind : (part : Written) (b : List Token) → Behind (spell_written part b) b
 written_behind (Text_ p) b = behind_one _ b
@@ -137,7 +137,7 @@ written_behind (Path_ p) b = behind_one _ b
 written_behind (List_ w h es ls ends f) b =
     one _ _ b (behind_on _ _ b (labels_behind ls (spell_elements es (spell_head h b))) (behind_on _ _ b (elements_behind w es (spell_head h b)) (head_behind w h b)))
 written_behind (Hex_ g ps ls ends f) b =
-    one _ _ b (behind_on _ _ b (labels_behind ls (spell_pairs ps (token sign.LeftSquare g ∷ b))) (behind_on _ _ b (pairs_behind ps (token sign.LeftSquare g ∷ b)) (behind_one (token sign.LeftSquare g) b)))
+    one _ _ b (behind_on _ _ b (labels_behind ls (spell_pairs ps (token terminal.LeftSquare g ∷ b))) (behind_on _ _ b (pairs_behind ps (token terminal.LeftSquare g ∷ b)) (behind_one (token terminal.LeftSquare g) b)))
 
 before_behind : (x : Before) (b : List Token) → Behind (spell_before x b) b
 before_behind Nothing b = behind_none b
@@ -148,7 +148,7 @@ before_behind (Comma_ x ls part after comma) b =
 short_behind : (s : Short) (b : List Token) → Behind (spell_short s b) b
 short_behind (Version_ d) b = behind_one _ b
 short_behind (Plugin_ d) b = behind_one _ b
-short_behind (Reserve_ d m p n q) b = record { ext = token (numeral_sign n) q ∷ token (numeral_sign m) p ∷ token sign.Reserve d ∷ []; parts = refl }
+short_behind (Reserve_ d m p n q) b = record { ext = token (numeral_terminal n) q ∷ token (numeral_terminal m) p ∷ token terminal.Reserve d ∷ []; parts = refl }
 short_behind (Delete_ref d p) b = two _ _ b b (behind_none b)
 short_behind (Omit_ref d p) b = two _ _ b b (behind_none b)
 short_behind (Delete_child d f n is) b = two _ _ b b (behind_none b)
@@ -177,11 +177,11 @@ at_token src t b l h =
     let e : t.spot.at ≡ f.span.start = (let F : Token → ℕ = λ z. z.spot.at in ap F f.token_is) in
     record { left = f.left; tokens = f.tokens; from = omega (arith, e, p.from); to = omega (arith, e, p.to) }
 
--- a reference behind what is read
-with_ref : (src : List ℕ) (p : Spot) (a b : List Token) (l : Left) (xs : List StmtData) (x : StmtData) → AreTokens src (token sign.Ref p ∷ a) l → Behind a b → refs (x ∷ []) ≡ p.at ∷ []
+-- a reference after what is read
+with_ref : (src : List ℕ) (p : Spot) (a b : List Token) (l : Left) (xs : List StmtData) (x : StmtData) → AreTokens src (token terminal.Ref p ∷ a) l → Behind a b → refs (x ∷ []) ≡ p.at ∷ []
     → ((m : Left) → AreTokens src b m → RiseTo m.at xs) → RiseTo l.at (xs ++ x ∷ [])
 with_ref src p a b l xs x h k e go =
-    let t : At src (token sign.Ref p) a l = at_token src (token sign.Ref p) a l h in
+    let t : At src (token terminal.Ref p) a l = at_token src (token terminal.Ref p) a l h in
     let q : Prefix src b t.left = earlier src a b t.left t.tokens k in
     let low : q.left.at ≤ p.at = (let u : q.left.at ≤ t.left.at = q.at in let v : t.left.at ≤ p.at = t.from in omega arith) in
     add_ref q.left.at l.at p.at xs x e low t.to (go q.left q.tokens)
@@ -196,9 +196,9 @@ rises_short src base ps (Version_ d) l h go = without_ref src _ (spell_pieces ps
 rises_short src base ps (Plugin_ d) l h go = without_ref src _ (spell_pieces ps) l (script base ps) h (short_behind (Plugin_ d) (spell_pieces ps)) go
 rises_short src base ps (Reserve_ d m p n q) l h go = without_ref src _ (spell_pieces ps) l (script base ps) h (short_behind (Reserve_ d m p n q) (spell_pieces ps)) go
 rises_short src base ps (Delete_ref d p) l h go =
-    with_ref src p (token sign.DeleteNode d ∷ spell_pieces ps) (spell_pieces ps) l (script base ps) (stmt p.at (DelNode (target_of p.text))) h (behind_one _ (spell_pieces ps)) (ref_one p.at p.text (λ t. DelNode t) (λ t e. rw e refl)) go
+    with_ref src p (token terminal.DeleteNode d ∷ spell_pieces ps) (spell_pieces ps) l (script base ps) (stmt p.at (DelNode (target_of p.text))) h (behind_one _ (spell_pieces ps)) (ref_one p.at p.text (λ t. DelNode t) (λ t e. rw e refl)) go
 rises_short src base ps (Omit_ref d p) l h go =
-    with_ref src p (token sign.Omit d ∷ spell_pieces ps) (spell_pieces ps) l (script base ps) (stmt p.at (Omit (target_of p.text))) h (behind_one _ (spell_pieces ps)) (ref_one p.at p.text (λ t. Omit t) (λ t e. rw e refl)) go
+    with_ref src p (token terminal.Omit d ∷ spell_pieces ps) (spell_pieces ps) l (script base ps) (stmt p.at (Omit (target_of p.text))) h (behind_one _ (spell_pieces ps)) (ref_one p.at p.text (λ t. Omit t) (λ t e. rw e refl)) go
 rises_short src base ps (Delete_child d f n is) l h go = carry l.at (script base ps) _ refl (without_ref src _ (spell_pieces ps) l (script base ps) h (short_behind (Delete_child d f n is) (spell_pieces ps)) go)
 rises_short src base ps (Delete_prop d f n is) l h go = carry l.at (script base ps) _ refl (without_ref src _ (spell_pieces ps) l (script base ps) h (short_behind (Delete_prop d f n is) (spell_pieces ps)) go)
 rises_short src base ps (End_node b) l h go =
@@ -214,7 +214,7 @@ rises_pieces src base (Open_root ps lead slash brace) l h =
     carry l.at _ (labels_of lead) (labels_bare lead) (carry l.at (script base ps) _ refl
     (without_ref src _ (spell_pieces ps) l (script base ps) h (two _ _ _ (spell_pieces ps) (lead_behind lead (spell_pieces ps))) (λ m k. rises_pieces src base ps m k)))
 rises_pieces src base (Open_ref ps lead ref brace) l h =
-    let q : Prefix src (token sign.Ref ref ∷ spell_lead lead (spell_pieces ps)) l = earlier src _ (token sign.Ref ref ∷ spell_lead lead (spell_pieces ps)) l h (behind_one _ (token sign.Ref ref ∷ spell_lead lead (spell_pieces ps))) in
+    let q : Prefix src (token terminal.Ref ref ∷ spell_lead lead (spell_pieces ps)) l = earlier src _ (token terminal.Ref ref ∷ spell_lead lead (spell_pieces ps)) l h (behind_one _ (token terminal.Ref ref ∷ spell_lead lead (spell_pieces ps))) in
     carry l.at _ (labels_of lead) (labels_bare lead) (rise_more q.left.at l.at _ q.at
     (with_ref src ref (spell_lead lead (spell_pieces ps)) (spell_pieces ps) q.left (script base ps) (stmt ref.at (Open (target_of ref.text))) q.tokens (lead_behind lead (spell_pieces ps))
     (ref_one ref.at ref.text (λ t. Open t) (λ t e. rw e refl)) (λ m k. rises_pieces src base ps m k)))

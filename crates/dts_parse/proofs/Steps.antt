@@ -12,8 +12,8 @@ use Rattle.dts_parse.specs.Statements.{No_lead, Nothing_yet}
 use Rattle.dts_parse.specs.Token.{Spot, Token}
 use Rattle.dts_parse.specs.declared.mode.Breach.{Breach}
 use Rattle.dts_parse.specs.declared.mode.Breach.TheVariants.{S1, S2, S5, S6}
-use Rattle.dts_parse.specs.declared.sign.Sign.{Sign}
-use Rattle.dts_parse.specs.declared.sign.Sign.TheVariants as sign
+use Rattle.dts_parse.specs.declared.terminal.Terminal.{Terminal}
+use Rattle.dts_parse.specs.declared.terminal.Terminal.TheVariants as terminal
 use Rattle.dts_parse.proofs.FrontReads.{reads_front}
 use Rattle.dts_parse.proofs.Kept.{kept}
 use Rattle.dts_parse.proofs.Leading.{IsOther, Leads}
@@ -98,32 +98,32 @@ limited_not_ok p (Err f) s e = by_rule f.rule e
     by_rule S6 e = not_ok _ s e
 
 pub record StepOk (s : Shape) (t : Token) (to : Shape) : Type 0 where
-  pub include : is_include t.sign ≡ false
-  pub deep : (is_opening (in_rounds s.mode) t.sign && nat_le 64 s.depth) ≡ false
+  pub include : is_include t.terminal ≡ false
+  pub deep : (is_opening (in_rounds s.mode) t.terminal && nat_le 64 s.depth) ≡ false
   pub long : nat_le 4096 s.long ≡ false
-  pub taken_is : taken s t.spot t.sign ≡ Ok to
+  pub taken_is : taken s t.spot t.terminal ≡ Ok to
 
 pub step_ok : (s : Shape) (t : Token) (to : Shape) → step s t ≡ Ok to → StepOk s t to
-step_ok s t to e = by_include (is_include t.sign) refl e
+step_ok s t to e = by_include (is_include t.terminal) refl e
   where
     r : Step
-    r = taken s t.spot t.sign
+    r = taken s t.spot t.terminal
 
-    by_long : (b : Bool) → is_include t.sign ≡ false → (is_opening (in_rounds s.mode) t.sign && nat_le 64 s.depth) ≡ false → nat_le 4096 s.long ≡ b
-        → (if b then limited t.spot (taken s t.spot t.sign) else taken s t.spot t.sign) ≡ Ok to → StepOk s t to
-    by_long true i d l e = absurd (limited_not_ok t.spot (taken s t.spot t.sign) to e)
+    by_long : (b : Bool) → is_include t.terminal ≡ false → (is_opening (in_rounds s.mode) t.terminal && nat_le 64 s.depth) ≡ false → nat_le 4096 s.long ≡ b
+        → (if b then limited t.spot (taken s t.spot t.terminal) else taken s t.spot t.terminal) ≡ Ok to → StepOk s t to
+    by_long true i d l e = absurd (limited_not_ok t.spot (taken s t.spot t.terminal) to e)
     by_long false i d l e = record { include = i; deep = d; long = l; taken_is = e }
 
-    by_deep : (b : Bool) → is_include t.sign ≡ false → (is_opening (in_rounds s.mode) t.sign && nat_le 64 s.depth) ≡ b
-        → (if b then stop S2 t.spot else if nat_le 4096 s.long then limited t.spot (taken s t.spot t.sign) else taken s t.spot t.sign) ≡ Ok to → StepOk s t to
+    by_deep : (b : Bool) → is_include t.terminal ≡ false → (is_opening (in_rounds s.mode) t.terminal && nat_le 64 s.depth) ≡ b
+        → (if b then stop S2 t.spot else if nat_le 4096 s.long then limited t.spot (taken s t.spot t.terminal) else taken s t.spot t.terminal) ≡ Ok to → StepOk s t to
     by_deep true i d e = absurd (not_ok _ to e)
     by_deep false i d e = by_long (nat_le 4096 s.long) i d refl e
 
-    by_include : (b : Bool) → is_include t.sign ≡ b
-        → (if b then stop S6 t.spot else if is_opening (in_rounds s.mode) t.sign && nat_le 64 s.depth then stop S2 t.spot
-        else if nat_le 4096 s.long then limited t.spot (taken s t.spot t.sign) else taken s t.spot t.sign) ≡ Ok to → StepOk s t to
+    by_include : (b : Bool) → is_include t.terminal ≡ b
+        → (if b then stop S6 t.spot else if is_opening (in_rounds s.mode) t.terminal && nat_le 64 s.depth then stop S2 t.spot
+        else if nat_le 4096 s.long then limited t.spot (taken s t.spot t.terminal) else taken s t.spot t.terminal) ≡ Ok to → StepOk s t to
     by_include true i e = absurd (not_ok _ to e)
-    by_include false i e = by_deep (is_opening (in_rounds s.mode) t.sign && nat_le 64 s.depth) i refl e
+    by_include false i e = by_deep (is_opening (in_rounds s.mode) t.terminal && nat_le 64 s.depth) i refl e
 
 -- ---- walking
 
@@ -168,11 +168,11 @@ pub record Reached (base : Bool) (seen : List Token) (s : Shape) : Type 0 where
   pub keeps : kept f ≡ s
   pub sharp : IsSharp f
 
-pub is_token : (src : List ℕ) (span : Span) (t : Token) → t ≡ token_of src span → IsToken t.sign t.spot.text
-is_token src span t e = let P : Token → Type 0 = λ x. IsToken x.sign x.spot.text in subst P (sym e) (typed span.kind (slice_of src span)).is
+pub is_token : (src : List ℕ) (span : Span) (t : Token) → t ≡ token_of src span → IsToken t.terminal t.spot.text
+is_token src span t e = let P : Token → Type 0 = λ x. IsToken x.terminal x.spot.text in subst P (sym e) (typed span.kind (slice_of src span)).is
 
-pub sound_at : (base : Bool) (f : Front base) (s : Shape) (t : Token) → IsSharp f → kept f ≡ s → IsToken t.sign t.spot.text → Sound base f t (taken s t.spot t.sign)
-sound_at base f s t sharp keeps is = let P : Shape → Type 0 = λ x. Sound base f t (taken x t.spot t.sign) in subst P keeps (sound base f sharp t.sign t.spot is)
+pub sound_at : (base : Bool) (f : Front base) (s : Shape) (t : Token) → IsSharp f → kept f ≡ s → IsToken t.terminal t.spot.text → Sound base f t (taken s t.spot t.terminal)
+sound_at base f s t sharp keeps is = let P : Shape → Type 0 = λ x. Sound base f t (taken x t.spot t.terminal) in subst P keeps (sound base f sharp t.terminal t.spot is)
 
 pub grows : (base : Bool) (f : Front base) (t : Token) (r : Step) (s : Shape) → Sound base f t r → r ≡ Ok s → Grown base f t s
 grows base f t r s h e = let P : Step → Type 0 = λ x. Sound base f t x in subst P e h
@@ -183,7 +183,7 @@ reach src base (t ∷ b) left s (mid, span, p, e, q) w =
     let k : Walked base b t s = walked base b t s w in
     let r : Reached base b k.mid = reach src base b mid k.mid p k.before in
     let o : StepOk k.mid t s = step_ok k.mid t s k.last in
-    let g : Grown base r.f t s = grows base r.f t (taken k.mid t.spot t.sign) s (sound_at base r.f k.mid t r.sharp r.keeps (is_token src span t q)) o.taken_is in
+    let g : Grown base r.f t s = grows base r.f t (taken k.mid t.spot t.terminal) s (sound_at base r.f k.mid t r.sharp r.keeps (is_token src span t q)) o.taken_is in
     record { f = g.g; spells = g.spells ∙ ap (λ ts. t ∷ ts) r.spells; keeps = g.keeps; sharp = g.sharp }
 
 -- what a front spells, if all goes well, is walked to what is kept there
@@ -196,9 +196,9 @@ front_after base g ts e = let P : List Token → Type 0 = λ x. Leads true (walk
 
 -- ---- limits
 
-opening_no_include : (rounds : Bool) (t : Sign) → is_opening rounds t ≡ true → is_include t ≡ false
-opening_no_include true sign.Include e = cc
-opening_no_include false sign.Include e = cc
+opening_no_include : (rounds : Bool) (t : Terminal) → is_opening rounds t ≡ true → is_include t ≡ false
+opening_no_include true terminal.Include e = cc
+opening_no_include false terminal.Include e = cc
 opening_no_include rounds _ e = refl
 
 pub if_then : {A : Type 0} (b : Bool) (x y : A) → b ≡ true → (if b then x else y) ≡ x
@@ -209,10 +209,10 @@ pub if_else : {A : Type 0} (b : Bool) (x y : A) → b ≡ false → (if b then x
 if_else true x y e = cc
 if_else false x y e = refl
 
-step_deep : (s : Shape) (t : Token) → is_opening (in_rounds s.mode) t.sign ≡ true → 64 ≤ s.depth → step s t ≡ stop S2 t.spot
+step_deep : (s : Shape) (t : Token) → is_opening (in_rounds s.mode) t.terminal ≡ true → 64 ≤ s.depth → step s t ≡ stop S2 t.spot
 step_deep s t o d =
-    if_else (is_include t.sign) _ _ (opening_no_include (in_rounds s.mode) t.sign o)
-    ∙ if_then (is_opening (in_rounds s.mode) t.sign && nat_le 64 s.depth) _ _ (both (is_opening (in_rounds s.mode) t.sign) (nat_le 64 s.depth) o (le-leb 64 s.depth d))
+    if_else (is_include t.terminal) _ _ (opening_no_include (in_rounds s.mode) t.terminal o)
+    ∙ if_then (is_opening (in_rounds s.mode) t.terminal && nat_le 64 s.depth) _ _ (both (is_opening (in_rounds s.mode) t.terminal) (nat_le 64 s.depth) o (le-leb 64 s.depth d))
   where
     both : (a b : Bool) → a ≡ true → b ≡ true → (a && b) ≡ true
     both true b e f = f
@@ -229,31 +229,31 @@ limited_leads p (Err f) to h = by_rule f.rule refl h
     by_rule S6 e h = refl
 
 step_long : (s : Shape) (t : Token) (to : Shape) → 4096 ≤ s.long → Leads true (step s t) to → step s t ≡ stop S2 t.spot
-step_long s t to l h = by_include (is_include t.sign) h
+step_long s t to l h = by_include (is_include t.terminal) h
   where
-    by_long : (b : Bool) → b ≡ true → Leads true (if b then limited t.spot (taken s t.spot t.sign) else taken s t.spot t.sign) to
-        → (if b then limited t.spot (taken s t.spot t.sign) else taken s t.spot t.sign) ≡ stop S2 t.spot
-    by_long true e h = limited_leads t.spot (taken s t.spot t.sign) to h
+    by_long : (b : Bool) → b ≡ true → Leads true (if b then limited t.spot (taken s t.spot t.terminal) else taken s t.spot t.terminal) to
+        → (if b then limited t.spot (taken s t.spot t.terminal) else taken s t.spot t.terminal) ≡ stop S2 t.spot
+    by_long true e h = limited_leads t.spot (taken s t.spot t.terminal) to h
     by_long false e h = cc
 
-    by_deep : (b : Bool) → Leads true (if b then stop S2 t.spot else if nat_le 4096 s.long then limited t.spot (taken s t.spot t.sign) else taken s t.spot t.sign) to
-        → (if b then stop S2 t.spot else if nat_le 4096 s.long then limited t.spot (taken s t.spot t.sign) else taken s t.spot t.sign) ≡ stop S2 t.spot
+    by_deep : (b : Bool) → Leads true (if b then stop S2 t.spot else if nat_le 4096 s.long then limited t.spot (taken s t.spot t.terminal) else taken s t.spot t.terminal) to
+        → (if b then stop S2 t.spot else if nat_le 4096 s.long then limited t.spot (taken s t.spot t.terminal) else taken s t.spot t.terminal) ≡ stop S2 t.spot
     by_deep true h = refl
     by_deep false h = by_long (nat_le 4096 s.long) (le-leb 4096 s.long l) h
 
-    by_include : (b : Bool) → Leads true (if b then stop S6 t.spot else if is_opening (in_rounds s.mode) t.sign && nat_le 64 s.depth then stop S2 t.spot
-        else if nat_le 4096 s.long then limited t.spot (taken s t.spot t.sign) else taken s t.spot t.sign) to
-        → (if b then stop S6 t.spot else if is_opening (in_rounds s.mode) t.sign && nat_le 64 s.depth then stop S2 t.spot
-        else if nat_le 4096 s.long then limited t.spot (taken s t.spot t.sign) else taken s t.spot t.sign) ≡ stop S2 t.spot
+    by_include : (b : Bool) → Leads true (if b then stop S6 t.spot else if is_opening (in_rounds s.mode) t.terminal && nat_le 64 s.depth then stop S2 t.spot
+        else if nat_le 4096 s.long then limited t.spot (taken s t.spot t.terminal) else taken s t.spot t.terminal) to
+        → (if b then stop S6 t.spot else if is_opening (in_rounds s.mode) t.terminal && nat_le 64 s.depth then stop S2 t.spot
+        else if nat_le 4096 s.long then limited t.spot (taken s t.spot t.terminal) else taken s t.spot t.terminal) ≡ stop S2 t.spot
     by_include true h = absurd h
-    by_include false h = by_deep (is_opening (in_rounds s.mode) t.sign && nat_le 64 s.depth) h
+    by_include false h = by_deep (is_opening (in_rounds s.mode) t.terminal && nat_le 64 s.depth) h
 
 -- where it is too much, the walk stops
 pub much_stops : (base : Bool) (f : Front base) (t : Token) (s : Shape) → IsTooMuch base f t → walk base (spell_front f) ≡ Ok s → step s t ≡ stop S2 t.spot
 much_stops base f t s (inl h) w =
     let e : s ≡ kept f = front_state base f s w in
-    let o : is_opening (in_rounds s.mode) t.sign ≡ true =
-    (let F : Shape → Bool = λ x. is_opening (in_rounds x.mode) t.sign in ap F e) ∙ (ap (λ b. is_opening b t.sign) (rounds_is base f) ∙ h.0) in
+    let o : is_opening (in_rounds s.mode) t.terminal ≡ true =
+    (let F : Shape → Bool = λ x. is_opening (in_rounds x.mode) t.terminal in ap F e) ∙ (ap (λ b. is_opening b t.terminal) (rounds_is base f) ∙ h.0) in
     let d : s.depth ≡ nested f = (let F : Shape → ℕ = λ x. x.depth in ap F e) ∙ depth_is base f in
     step_deep s t o (subst (λ (n : ℕ). 64 ≤ n) (sym d) h.1)
 much_stops base f t s (inr h) w =
@@ -266,16 +266,16 @@ much_stops base f t s (inr h) w =
 -- ---- a step that stops
 
 pub data Stopped (s : Shape) (t : Token) (x : Fault) : Type 0 where
-  By_include : is_include t.sign ≡ true → x ≡ record { rule = S6; at = t.spot.at } → Stopped s t x
-  By_depth : is_opening (in_rounds s.mode) t.sign ≡ true → 64 ≤ s.depth → x ≡ record { rule = S2; at = t.spot.at } → Stopped s t x
-  By_length : 4096 ≤ s.long → (to : Shape) → taken s t.spot t.sign ≡ Ok to → x ≡ record { rule = S2; at = t.spot.at } → Stopped s t x
-  By_length_misfit : 4096 ≤ s.long → (y : Fault) → taken s t.spot t.sign ≡ Err y → (y.rule ≡ S1 → ⊥) → x ≡ record { rule = S2; at = t.spot.at } → Stopped s t x
-  By_token : taken s t.spot t.sign ≡ Err x → Stopped s t x
+  By_include : is_include t.terminal ≡ true → x ≡ record { rule = S6; at = t.spot.at } → Stopped s t x
+  By_depth : is_opening (in_rounds s.mode) t.terminal ≡ true → 64 ≤ s.depth → x ≡ record { rule = S2; at = t.spot.at } → Stopped s t x
+  By_length : 4096 ≤ s.long → (to : Shape) → taken s t.spot t.terminal ≡ Ok to → x ≡ record { rule = S2; at = t.spot.at } → Stopped s t x
+  By_length_misfit : 4096 ≤ s.long → (y : Fault) → taken s t.spot t.terminal ≡ Err y → (y.rule ≡ S1 → ⊥) → x ≡ record { rule = S2; at = t.spot.at } → Stopped s t x
+  By_token : taken s t.spot t.terminal ≡ Err x → Stopped s t x
 
 err_same : (x y : Fault) → halt x ≡ halt y → y ≡ x
 err_same x y e = cc
 
-stopped_long : (s : Shape) (t : Token) (x : Fault) → 4096 ≤ s.long → (r : Step) → taken s t.spot t.sign ≡ r → limited t.spot r ≡ Err x → Stopped s t x
+stopped_long : (s : Shape) (t : Token) (x : Fault) → 4096 ≤ s.long → (r : Step) → taken s t.spot t.terminal ≡ r → limited t.spot r ≡ Err x → Stopped s t x
 stopped_long s t x l (Ok to) e h = By_length l to e (err_same _ x h)
 stopped_long s t x l (Err y) e h = by_rule y.rule refl h
   where
@@ -286,20 +286,20 @@ stopped_long s t x l (Err y) e h = by_rule y.rule refl h
     by_rule S6 k h = By_length_misfit l y e (λ z. cc) (err_same _ x h)
 
 pub stopped : (s : Shape) (t : Token) (x : Fault) → step s t ≡ Err x → Stopped s t x
-stopped s t x e = by_include (is_include t.sign) refl e
+stopped s t x e = by_include (is_include t.terminal) refl e
   where
-    by_long : (b : Bool) → nat_le 4096 s.long ≡ b → (if b then limited t.spot (taken s t.spot t.sign) else taken s t.spot t.sign) ≡ Err x → Stopped s t x
-    by_long true l e = stopped_long s t x (leb-true 4096 s.long l) (taken s t.spot t.sign) refl e
+    by_long : (b : Bool) → nat_le 4096 s.long ≡ b → (if b then limited t.spot (taken s t.spot t.terminal) else taken s t.spot t.terminal) ≡ Err x → Stopped s t x
+    by_long true l e = stopped_long s t x (leb-true 4096 s.long l) (taken s t.spot t.terminal) refl e
     by_long false l e = By_token e
 
-    by_deep : (b : Bool) → (is_opening (in_rounds s.mode) t.sign && nat_le 64 s.depth) ≡ b
-        → (if b then stop S2 t.spot else if nat_le 4096 s.long then limited t.spot (taken s t.spot t.sign) else taken s t.spot t.sign) ≡ Err x → Stopped s t x
+    by_deep : (b : Bool) → (is_opening (in_rounds s.mode) t.terminal && nat_le 64 s.depth) ≡ b
+        → (if b then stop S2 t.spot else if nat_le 4096 s.long then limited t.spot (taken s t.spot t.terminal) else taken s t.spot t.terminal) ≡ Err x → Stopped s t x
     by_deep true d e =
-        let both : (is_opening (in_rounds s.mode) t.sign ≡ true) × (nat_le 64 s.depth ≡ true) = and_parts _ _ d in By_depth both.0 (leb-true 64 s.depth both.1) (err_same _ x e)
+        let both : (is_opening (in_rounds s.mode) t.terminal ≡ true) × (nat_le 64 s.depth ≡ true) = and_parts _ _ d in By_depth both.0 (leb-true 64 s.depth both.1) (err_same _ x e)
     by_deep false d e = by_long (nat_le 4096 s.long) refl e
 
-    by_include : (b : Bool) → is_include t.sign ≡ b
-        → (if b then stop S6 t.spot else if is_opening (in_rounds s.mode) t.sign && nat_le 64 s.depth then stop S2 t.spot
-        else if nat_le 4096 s.long then limited t.spot (taken s t.spot t.sign) else taken s t.spot t.sign) ≡ Err x → Stopped s t x
+    by_include : (b : Bool) → is_include t.terminal ≡ b
+        → (if b then stop S6 t.spot else if is_opening (in_rounds s.mode) t.terminal && nat_le 64 s.depth then stop S2 t.spot
+        else if nat_le 4096 s.long then limited t.spot (taken s t.spot t.terminal) else taken s t.spot t.terminal) ≡ Err x → Stopped s t x
     by_include true i e = By_include i (err_same _ x e)
-    by_include false i e = by_deep (is_opening (in_rounds s.mode) t.sign && nat_le 64 s.depth) refl e
+    by_include false i e = by_deep (is_opening (in_rounds s.mode) t.terminal && nat_le 64 s.depth) refl e

@@ -1,6 +1,6 @@
 -- What a value spells is read as its parts.
 use Rattle.std.proofs.Common.{◌≡◌, ℕ, suc, Bool, true, false, List, [], ◌∷◌, ◌++◌, Option, Some, None, Ok, Err, refl, sym, ap, subst, ◌∙◌, if◌then◌else◌}
-use Rattle.dts_parse.specs.Exprs.{Literal, Small, Large, Letter, Tree, IsProper, count, large, literal_sign, literal_worth, spell, worth_of}
+use Rattle.dts_parse.specs.Exprs.{Literal, Small, Large, Letter, Tree, IsProper, count, large, literal_terminal, literal_worth, spell, worth_of}
 use Rattle.dts_parse.specs.Inner.Machine.{Shape, Step, at_ref, at_width, by_mode, climbed, closed_round, labelled, more_labels, put}
 use Rattle.dts_parse.specs.Values.{Labels, No_labels, Label_, Element, Lone, Group, Refer, Elements, None_yet, Then, Pairs, No_pair, And_pair, Head, Angle_, Bits_, Written, Text_, Path_, List_, Hex_, Before, Nothing, Comma_, bytes_of, bytes_with, cells_of, cells_with, listing_of, may_close, misfits, pair_bytes, pair_listing, part_of, parts_of, spell_before, spell_element, spell_elements, spell_head, spell_labels, spell_pairs, spell_written}
 use Rattle.dts_parse.specs.StmtData.{PartData}
@@ -13,9 +13,9 @@ use Rattle.dts_parse.specs.declared.mode.Mode.TheVariants as mode
 use Rattle.dts_parse.specs.declared.mode.Breach.TheVariants.{S5}
 use Rattle.dts_parse.specs.declared.script.RawCell.{RawCell}
 use Rattle.dts_parse.specs.declared.script.RawCell.TheVariants as cell
-use Rattle.dts_parse.specs.declared.sign.Form.TheVariants as form
-use Rattle.dts_parse.specs.declared.sign.Sign.TheVariants as sign
-use Rattle.dts_parse.specs.declared.sign.Width.{Width}
+use Rattle.dts_parse.specs.declared.terminal.Form.TheVariants as form
+use Rattle.dts_parse.specs.declared.terminal.Terminal.TheVariants as terminal
+use Rattle.dts_parse.specs.declared.terminal.Width.{Width}
 use Rattle.dts_parse.proofs.ExprReads.{closes, level_range, operand_at, operator_at, reads}
 use Rattle.dts_parse.proofs.Kept.{spine}
 use Rattle.dts_parse.proofs.Leading.{Leads, Reads, go, hop}
@@ -48,12 +48,12 @@ abbrev site_at : Shape → Mode → Shape
 site_at s m = record s { mode = m; colon = false }
 
 reads_labels : (base : Bool) (m : Labels → Mode)
-    → ((ls : Labels) (s : Shape) (p : Spot) → by_mode (m ls) s p (sign.Name form.Label) ≡ Ok (record s { colon = true }))
+    → ((ls : Labels) (s : Shape) (p : Spot) → by_mode (m ls) s p (terminal.Name form.Label) ≡ Ok (record s { colon = true }))
     → ((ls : Labels) (n : Name form.Label) (c : Spot) → labelled (m ls) ≡ m (Label_ ls n c))
     → (ls : Labels) (s : Shape) (before : List Token) → Reads true base before (site_at s (m No_labels)) → Reads true base (spell_labels ls before) (site_at s (m ls))
 reads_labels base m takes next No_labels s before h = h
 reads_labels base m takes next (Label_ ls n c) s before h =
-    hop (token sign.Colon c) (hop (name_token form.Label n) (reads_labels base m takes next ls s before h) refl (takes ls (site_at s (m ls)) n.spot)) refl
+    hop (token terminal.Colon c) (hop (name_token form.Label n) (reads_labels base m takes next ls s before h) refl (takes ls (site_at s (m ls)) n.spot)) refl
     (let F : Mode → Step = λ x. Ok (site_at s x) in ap F (next ls n c))
 
 pub value_labels : (base : Bool) (ls : Labels) (s : Shape) (ps : List PartData) (before : List Token) → Reads true base before (value_at s ps) → Reads true base (spell_labels ls before) (value_at s ps)
@@ -97,22 +97,22 @@ abbrev pub lone_at : (w : Width) → Shape → List PartData → Option ℕ → 
 lone_at w s ps n cs bs = list_at s ps w listing.Elements (cells_with w n cs) (bytes_with w n bs)
 
 reads_lone : (base : Bool) (w : Width) (l : Listing) (s : Shape) (ps : List PartData) (cs : List RawCell) (bs : List ℕ) (x : Literal) (p : Spot) (before : List Token)
-    → Reads true base before (list_at s ps w l cs bs) → Reads true base (token (literal_sign x) p ∷ before) (lone_at w s ps (literal_worth x) cs bs)
-reads_lone base w l s ps cs bs (Small n) p before h = go (token (sign.Number n) p) h refl (record { is = put_leads w false (Some n) p.at (list_at s ps w l cs bs) })
-reads_lone base w l s ps cs bs Large p before h = go (token sign.Huge p) h refl (record { is = put_leads w true None p.at (list_at s ps w l cs bs) })
-reads_lone base w l s ps cs bs (Letter n) p before h = go (token (sign.Char n) p) h refl (record { is = put_leads w false (Some n) p.at (list_at s ps w l cs bs) })
+    → Reads true base before (list_at s ps w l cs bs) → Reads true base (token (literal_terminal x) p ∷ before) (lone_at w s ps (literal_worth x) cs bs)
+reads_lone base w l s ps cs bs (Small n) p before h = go (token (terminal.Number n) p) h refl (record { is = put_leads w false (Some n) p.at (list_at s ps w l cs bs) })
+reads_lone base w l s ps cs bs Large p before h = go (token terminal.Huge p) h refl (record { is = put_leads w true None p.at (list_at s ps w l cs bs) })
+reads_lone base w l s ps cs bs (Letter n) p before h = go (token (terminal.Char n) p) h refl (record { is = put_leads w false (Some n) p.at (list_at s ps w l cs bs) })
 
 pub reads_group : (base : Bool) (w : Width) (l : Listing) (s : Shape) (ps : List PartData) (cs : List RawCell) (bs : List ℕ) (b : Spot) (e : Tree) (f : Spot) (before : List Token)
-    → IsProper e → Reads true base before (list_at s ps w l cs bs) → Reads true base (token sign.RightRound f ∷ spell e (token sign.LeftRound b ∷ before)) (lone_at w s ps (worth_of e) cs bs)
+    → IsProper e → Reads true base before (list_at s ps w l cs bs) → Reads true base (token terminal.RightRound f ∷ spell e (token terminal.LeftRound b ∷ before)) (lone_at w s ps (worth_of e) cs bs)
 reads_group base w l s ps cs bs b e f before is h =
     let t : Shape = record (list_at s ps w l cs bs) { begin = b.at } in
-    let opened : Reads true base (token sign.LeftRound b ∷ before) (operand_at t w (suc (suc s.depth)) false 1 []) = hop (token sign.LeftRound b) h refl refl in
-    let inner : Reads true base (spell e (token sign.LeftRound b ∷ before)) (operator_at t w (suc (suc s.depth)) (large e false) (count e 1) (spine e [])) =
-    reads true base e t w (suc (suc s.depth)) false 1 [] (token sign.LeftRound b ∷ before) is (level_range e) opened in
+    let opened : Reads true base (token terminal.LeftRound b ∷ before) (operand_at t w (suc (suc s.depth)) false 1 []) = hop (token terminal.LeftRound b) h refl refl in
+    let inner : Reads true base (spell e (token terminal.LeftRound b ∷ before)) (operator_at t w (suc (suc s.depth)) (large e false) (count e 1) (spine e [])) =
+    reads true base e t w (suc (suc s.depth)) false 1 [] (token terminal.LeftRound b ∷ before) is (level_range e) opened in
     let now : Shape = operator_at t w (suc (suc s.depth)) (large e false) (count e 1) (spine e []) in
     let ended : closed_round w now f (climbed 12 (spine e []).left (spine e []).worth) ≡ closed_round w now f (record { left = []; worth = worth_of e }) =
     ap (λ x. closed_round w now f x) (closes e 12 [] is (level_range e)) in
-    go (token sign.RightRound f) inner refl (record {
+    go (token terminal.RightRound f) inner refl (record {
       is =
           (let P : Step → Type 0 = λ r. Leads true r (lone_at w s ps (worth_of e) cs bs) in
           subst P (sym ended) (put_leads w (large e false) (worth_of e) b.at (list_at s ps w l cs bs)));
@@ -126,7 +126,7 @@ reads_element base w l s ps es ls (Group b e is f) before h = reads_group base w
 reads_element base w l s ps es ls (Refer is p) before h =
     let now : Shape = list_at s ps w l (cells_of w es) (bytes_of w es) in
     let F : Width → Step = λ v. Ok (record now { mode = mode.Cells v listing.Elements; cells = cells_of w es ++ cell.Ref (target_of p.text) ∷ [] }) in
-    hop (token sign.Ref p) h refl (ap (λ v. at_ref v now p) is ∙ sym (ap F is))
+    hop (token terminal.Ref p) h refl (ap (λ v. at_ref v now p) is ∙ sym (ap F is))
 
 pub reads_elements : (base : Bool) (w : Width) (s : Shape) (ps : List PartData) (es : Elements w) (before : List Token)
     → Reads true base before (list_at s ps w listing.Empty [] []) → Reads true base (spell_elements es before) (list_at s ps w (listing_of es No_labels) (cells_of w es) (bytes_of w es))
@@ -139,45 +139,45 @@ pub reads_pairs : (base : Bool) (s : Shape) (ps : List PartData) (qs : Pairs) (b
     → Reads true base before (pairs_at s ps listing.Empty []) → Reads true base (spell_pairs qs before) (pairs_at s ps (pair_listing qs No_labels) (pair_bytes qs))
 reads_pairs base s ps No_pair before h = h
 reads_pairs base s ps (And_pair qs ls byte p) before h =
-    hop (token (sign.Pair byte) p) (pairs_labels base qs ls s ps (pair_bytes qs) (spell_pairs qs before) (reads_pairs base s ps qs before h)) refl refl
+    hop (token (terminal.Pair byte) p) (pairs_labels base qs ls s ps (pair_bytes qs) (spell_pairs qs before) (reads_pairs base s ps qs before h)) refl refl
 
 -- ---- parts
 
 pub reads_bits : (base : Bool) (s : Shape) (ps : List PartData) (d : Spot) (before : List Token)
-    → Reads true base before (value_at s ps) → Reads true base (token sign.Bits d ∷ before) (record (value_at s ps) { mode = mode.Bits })
-reads_bits base s ps d before h = hop (token sign.Bits d) h refl refl
+    → Reads true base before (value_at s ps) → Reads true base (token terminal.Bits d ∷ before) (record (value_at s ps) { mode = mode.Bits })
+reads_bits base s ps d before h = hop (token terminal.Bits d) h refl refl
 
 pub reads_angle : (base : Bool) (w : Width) (s : Shape) (ps : List PartData) (d : Spot) (n : ℕ) → width_of n ≡ Some w → (q : Spot) (before : List Token)
-    → Reads true base before (value_at s ps) → Reads true base (token (sign.Number n) q ∷ token sign.Bits d ∷ before) (record (value_at s ps) { mode = mode.Angle w })
+    → Reads true base before (value_at s ps) → Reads true base (token (terminal.Number n) q ∷ token terminal.Bits d ∷ before) (record (value_at s ps) { mode = mode.Angle w })
 reads_angle base w s ps d n is q before h =
-    hop (token (sign.Number n) q) (reads_bits base s ps d before h) refl (ap (λ x. at_width (record (value_at s ps) { mode = mode.Bits }) q x) is)
+    hop (token (terminal.Number n) q) (reads_bits base s ps d before h) refl (ap (λ x. at_width (record (value_at s ps) { mode = mode.Bits }) q x) is)
 
 pub reads_head : (base : Bool) (w : Width) (s : Shape) (ps : List PartData) (h : Head w) (before : List Token)
     → Reads true base before (value_at s ps) → Reads true base (spell_head h before) (list_at s ps w listing.Empty [] [])
 reads_head base w s ps (Angle_ is b) before h =
     let F : Width → Step = λ v. Ok (list_at s ps v listing.Empty [] []) in
-    hop (token sign.Less b) h refl (sym (ap F is))
-reads_head base w s ps (Bits_ d n is q b) before h = hop (token sign.Less b) (reads_angle base w s ps d n is q before h) refl refl
+    hop (token terminal.Less b) h refl (sym (ap F is))
+reads_head base w s ps (Bits_ d n is q b) before h = hop (token terminal.Less b) (reads_angle base w s ps d n is q before h) refl refl
 
 pub reads_written : (base : Bool) (s : Shape) (ps : List PartData) (part : Written) (before : List Token)
     → Reads true base before (value_at s ps) → Reads true base (spell_written part before) (part_at s (ps ++ part_of part ∷ []))
-reads_written base s ps (Text_ p) before h = hop (token sign.Str p) h refl refl
-reads_written base s ps (Path_ p) before h = hop (token sign.Ref p) h refl refl
+reads_written base s ps (Text_ p) before h = hop (token terminal.Str p) h refl refl
+reads_written base s ps (Path_ p) before h = hop (token terminal.Ref p) h refl refl
 reads_written base s ps (List_ w hd es ls ends f) before h =
-    hop (token sign.Greater f)
+    hop (token terminal.Greater f)
     (list_labels base w es ls s ps (cells_of w es) (bytes_of w es) _ (reads_elements base w s ps es (spell_head hd before) (reads_head base w s ps hd before h)))
     refl (if_true (may_close (listing_of es ls)) _ _ ends)
 reads_written base s ps (Hex_ b qs ls ends f) before h =
-    let opened : Reads true base (token sign.LeftSquare b ∷ before) (pairs_at s ps listing.Empty []) = hop (token sign.LeftSquare b) h refl refl in
-    hop (token sign.RightSquare f)
-    (pairs_labels base qs ls s ps (pair_bytes qs) _ (reads_pairs base s ps qs (token sign.LeftSquare b ∷ before) opened))
+    let opened : Reads true base (token terminal.LeftSquare b ∷ before) (pairs_at s ps listing.Empty []) = hop (token terminal.LeftSquare b) h refl refl in
+    hop (token terminal.RightSquare f)
+    (pairs_labels base qs ls s ps (pair_bytes qs) _ (reads_pairs base s ps qs (token terminal.LeftSquare b ∷ before) opened))
     refl (if_true (may_close (pair_listing qs ls)) _ _ ends)
 
 pub reads_before : (base : Bool) (s : Shape) (b : Before) (before : List Token)
     → Reads true base before (value_at s []) → Reads true base (spell_before b before) (value_at s (parts_of b))
 reads_before base s Nothing before h = h
 reads_before base s (Comma_ b ls part after comma) before h =
-    hop (token sign.Comma comma)
+    hop (token terminal.Comma comma)
     (part_labels base after s (parts_of b ++ part_of part ∷ []) _
     (reads_written base s (parts_of b) part _ (value_labels base ls s (parts_of b) _ (reads_before base s b before h))))
     refl refl

@@ -1,12 +1,12 @@
--- Expressions: their trees, what they spell, and what they are worth. What is spelled stands behind the tokens before
+-- Expressions: their trees, what they spell, and what they are worth. What is spelled stands after the tokens before
 -- it, the last token first.
 use Rattle.std.specs.Prelude.{◌≤◌, ◌<◌, ℕ, zero, suc, Bool, true, false, List, ◌∷◌, Option, Some, None, nat_le, option_map, if◌then◌else◌}
-use Rattle.dts_parse.specs.Token.{Token, Spot, token, un_sign, bin_sign, op_level}
+use Rattle.dts_parse.specs.Token.{Token, Spot, token, un_terminal, bin_terminal, op_level}
 use Rattle.dts_parse.specs.Worth.{un, bin, cond}
 use Rattle.dts_parse.specs.declared.expr.BinOp.{BinOp}
 use Rattle.dts_parse.specs.declared.expr.UnOp.{UnOp}
-use Rattle.dts_parse.specs.declared.sign.Sign.{Sign}
-use Rattle.dts_parse.specs.declared.sign.Sign.TheVariants as sign
+use Rattle.dts_parse.specs.declared.terminal.Terminal.{Terminal}
+use Rattle.dts_parse.specs.declared.terminal.Terminal.TheVariants as terminal
 
 -- a number, below 2 ^ 64 or not, or a character
 pub data Literal : Type 0 where
@@ -14,10 +14,10 @@ pub data Literal : Type 0 where
   Large : Literal
   Letter : ℕ → Literal
 
-abbrev pub literal_sign : Literal → Sign
-literal_sign (Small n) = sign.Number n
-literal_sign Large = sign.Huge
-literal_sign (Letter n) = sign.Char n
+abbrev pub literal_terminal : Literal → Terminal
+literal_terminal (Small n) = terminal.Number n
+literal_terminal Large = terminal.Huge
+literal_terminal (Letter n) = terminal.Char n
 
 abbrev pub literal_worth : Literal → Option ℕ
 literal_worth (Small n) = Some n
@@ -36,13 +36,14 @@ pub data Tree : Type 0 where
   Cond : Tree → (question : Spot) → Tree → (colon : Spot) → Tree → Tree
 
 abbrev pub spell : Tree → List Token → List Token
-spell (Num l p) before = token (literal_sign l) p ∷ before
-spell (Round begin e finish) before = token sign.RightRound finish ∷ spell e (token sign.LeftRound begin ∷ before)
-spell (Un o p e) before = spell e (token (un_sign o) p ∷ before)
-spell (Bin l o p r) before = spell r (token (bin_sign o) p ∷ spell l before)
-spell (Cond c q a k b) before = spell b (token sign.Colon k ∷ spell a (token sign.Question q ∷ spell c before))
+spell (Num l p) before = token (literal_terminal l) p ∷ before
+spell (Round begin e finish) before =
+    token terminal.RightRound finish ∷ spell e (token terminal.LeftRound begin ∷ before)
+spell (Un o p e) before = spell e (token (un_terminal o) p ∷ before)
+spell (Bin l o p r) before = spell r (token (bin_terminal o) p ∷ spell l before)
+spell (Cond c q a k b) before = spell b (token terminal.Colon k ∷ spell a (token terminal.Question q ∷ spell c before))
 
--- the strength of an expression: 0 for a number and brackets, 1 for a sign before its operand, and 12 for `?:`
+-- the strength of an expression: 0 for a number and brackets, 1 for an operator before its operand, and 12 for `?:`
 abbrev pub level : Tree → ℕ
 level (Num l p) = 0
 level (Round begin e finish) = 0
@@ -97,12 +98,12 @@ pub data Waiting : Type 0 where
 
 abbrev pub spell_waiting : Waiting → List Token → List Token
 spell_waiting Start before = before
-spell_waiting (In_round w begin) before = token sign.LeftRound begin ∷ spell_waiting w before
-spell_waiting (In_un w o p) before = token (un_sign o) p ∷ spell_waiting w before
-spell_waiting (In_bin w l o p) before = token (bin_sign o) p ∷ spell l (spell_waiting w before)
-spell_waiting (In_cond w c q) before = token sign.Question q ∷ spell c (spell_waiting w before)
+spell_waiting (In_round w begin) before = token terminal.LeftRound begin ∷ spell_waiting w before
+spell_waiting (In_un w o p) before = token (un_terminal o) p ∷ spell_waiting w before
+spell_waiting (In_bin w l o p) before = token (bin_terminal o) p ∷ spell l (spell_waiting w before)
+spell_waiting (In_cond w c q) before = token terminal.Question q ∷ spell c (spell_waiting w before)
 spell_waiting (In_else w c q a k) before =
-    token sign.Colon k ∷ spell a (token sign.Question q ∷ spell c (spell_waiting w before))
+    token terminal.Colon k ∷ spell a (token terminal.Question q ∷ spell c (spell_waiting w before))
 
 abbrev pub below : ℕ → ℕ
 below zero = zero

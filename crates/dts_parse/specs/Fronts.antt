@@ -1,17 +1,17 @@
 -- Fronts: what is read of a source that may go on. Each is an open case of the grammar with the parts that are read.
 use Rattle.std.specs.Prelude.{◌≡◌, ◌≤◌, ℕ, suc, Bool, true, false, ◌&&◌, ◌||◌, List, ◌∷◌, Some}
 use Rattle.dts_parse.specs.Exprs.{Tree, Waiting, IsProper, AreProper, level, room, rounds, count, count_waiting, spell, spell_waiting}
-use Rattle.dts_parse.specs.Statements.{AreFit, Lead, No_lead, Label_lead, Mark_lead, Numeral, Pieces, Place, Short, is_empty, marks_of, numeral_sign, place, place_behind, spell_lead, spell_pieces, spell_short, takes_inner, takes_short, takes_top}
+use Rattle.dts_parse.specs.Statements.{AreFit, Lead, No_lead, Label_lead, Mark_lead, Numeral, Pieces, Place, Short, is_empty, marks_of, numeral_terminal, place, place_behind, spell_lead, spell_pieces, spell_short, takes_inner, takes_short, takes_top}
 use Rattle.dts_parse.specs.Texts.{width_of}
 use Rattle.dts_parse.specs.Token.{Name, Spot, Token, is_label_form, is_node_form, is_prop_form, name_token, token}
 use Rattle.dts_parse.specs.Values.{Before, Elements, Head, Labels, Pairs, Written, spell_before, spell_elements, spell_head, spell_labels, spell_pairs, spell_written}
 use Rattle.dts_parse.specs.declared.mode.Wanted.{Wanted}
 use Rattle.dts_parse.specs.declared.mode.Wanted.TheVariants as wanted
-use Rattle.dts_parse.specs.declared.sign.Form.{Form}
-use Rattle.dts_parse.specs.declared.sign.Form.TheVariants as form
-use Rattle.dts_parse.specs.declared.sign.Sign.{Sign}
-use Rattle.dts_parse.specs.declared.sign.Sign.TheVariants as sign
-use Rattle.dts_parse.specs.declared.sign.Width.{Width}
+use Rattle.dts_parse.specs.declared.terminal.Form.{Form}
+use Rattle.dts_parse.specs.declared.terminal.Form.TheVariants as form
+use Rattle.dts_parse.specs.declared.terminal.Terminal.{Terminal}
+use Rattle.dts_parse.specs.declared.terminal.Terminal.TheVariants as terminal
+use Rattle.dts_parse.specs.declared.terminal.Width.{Width}
 
 -- ---- statements that are begun
 
@@ -21,7 +21,7 @@ fits_lead p No_lead = true
 fits_lead p (Label_lead lead n colon) = takes_inner p || (takes_top p && is_empty (marks_of lead))
 fits_lead p (Mark_lead lead directive) = takes_inner p
 
--- a name may stand as a label, a property's name or a node's name; behind a mark as one of a node or a label alone
+-- a name may stand as a label, a property's name or a node's name; after a mark as one of a node or a label alone
 abbrev pub may_name : Place → Bool → Form → Bool
 may_name p bare f = (takes_inner p && (bare || is_node_form f)) || (takes_top p && is_label_form f)
 
@@ -31,8 +31,8 @@ pub data Opening : Type 0 where
   Ref_ : Spot → Opening
 
 abbrev pub opening_token : Opening → Token
-opening_token (Root_ p) = token sign.Slash p
-opening_token (Ref_ p) = token sign.Ref p
+opening_token (Root_ p) = token terminal.Slash p
+opening_token (Ref_ p) = token terminal.Ref p
 
 -- a statement whose directive is read
 pub data Begun : Type 0 where
@@ -44,12 +44,12 @@ pub data Begun : Type 0 where
   Deleted_prop : (directive : Spot) → Begun
 
 abbrev pub spell_begun : Begun → List Token → List Token
-spell_begun (First_number d) before = token sign.Reserve d ∷ before
-spell_begun (Second_number d m p) before = token (numeral_sign m) p ∷ token sign.Reserve d ∷ before
-spell_begun (Deleted_ref d) before = token sign.DeleteNode d ∷ before
-spell_begun (Omitted_ref d) before = token sign.Omit d ∷ before
-spell_begun (Deleted_child d) before = token sign.DeleteNode d ∷ before
-spell_begun (Deleted_prop d) before = token sign.DeleteProp d ∷ before
+spell_begun (First_number d) before = token terminal.Reserve d ∷ before
+spell_begun (Second_number d m p) before = token (numeral_terminal m) p ∷ token terminal.Reserve d ∷ before
+spell_begun (Deleted_ref d) before = token terminal.DeleteNode d ∷ before
+spell_begun (Omitted_ref d) before = token terminal.Omit d ∷ before
+spell_begun (Deleted_child d) before = token terminal.DeleteNode d ∷ before
+spell_begun (Deleted_prop d) before = token terminal.DeleteProp d ∷ before
 
 abbrev pub takes_begun : Place → Begun → Bool
 takes_begun p (First_number d) = takes_top p
@@ -90,9 +90,9 @@ pub record Beginning (base : Bool) : Type 0 where
   pub equal : Spot
 
 abbrev pub spell_beginning : {base : Bool} → Beginning base → List Token
-spell_beginning b = token sign.Equal b.equal ∷ name_token b.f b.n ∷ spell_lead b.lead (spell_pieces b.ps)
+spell_beginning b = token terminal.Equal b.equal ∷ name_token b.f b.n ∷ spell_lead b.lead (spell_pieces b.ps)
 
--- an open list, with the labels behind its last element
+-- an open list, with the labels after its last element
 pub record Listed (base : Bool) (w : Width) : Type 0 where
   pub top : Beginning base
   pub b : Before
@@ -122,7 +122,7 @@ spell_site (After_part top b ls part after) =
 spell_site (In_list w l) = spell_listed l
 spell_site (In_hex top b ls begin ps now) =
     spell_labels now
-    (spell_pairs ps (token sign.LeftSquare begin ∷ spell_labels ls (spell_before b (spell_beginning top))))
+    (spell_pairs ps (token terminal.LeftSquare begin ∷ spell_labels ls (spell_before b (spell_beginning top))))
 
 -- ---- fronts
 
@@ -152,12 +152,13 @@ spell_front (At_end ps fit s may) = spell_short s (spell_pieces ps)
 spell_front (At_site s) = spell_site s
 spell_front (At_colon s n) = name_token form.Label n ∷ spell_site s
 spell_front (At_bits top b ls directive) =
-    token sign.Bits directive ∷ spell_labels ls (spell_before b (spell_beginning top))
+    token terminal.Bits directive ∷ spell_labels ls (spell_before b (spell_beginning top))
 spell_front (At_angle top b ls directive n w is number) =
-    token (sign.Number n) number ∷ token sign.Bits directive ∷ spell_labels ls (spell_before b (spell_beginning top))
-spell_front (Before_operand w l begin x proper) = spell_waiting x (token sign.LeftRound begin ∷ spell_listed l)
+    token (terminal.Number n) number ∷ token terminal.Bits directive ∷ spell_labels ls
+    (spell_before b (spell_beginning top))
+spell_front (Before_operand w l begin x proper) = spell_waiting x (token terminal.LeftRound begin ∷ spell_listed l)
 spell_front (After_operand w l begin x proper e is fits) =
-    spell e (spell_waiting x (token sign.LeftRound begin ∷ spell_listed l))
+    spell e (spell_waiting x (token terminal.LeftRound begin ∷ spell_listed l))
 
 -- ---- what is open
 
@@ -196,10 +197,10 @@ in_expression (After_operand w l begin x proper e is fits) = true
 in_expression _ = false
 
 -- a brace or bracket that opens; in expressions `<` is an operator
-abbrev pub is_opening : Bool → Sign → Bool
-is_opening rounds sign.LeftBrace = true
-is_opening rounds sign.LeftSquare = true
-is_opening rounds sign.LeftRound = true
-is_opening true sign.Less = false
-is_opening false sign.Less = true
+abbrev pub is_opening : Bool → Terminal → Bool
+is_opening rounds terminal.LeftBrace = true
+is_opening rounds terminal.LeftSquare = true
+is_opening rounds terminal.LeftRound = true
+is_opening true terminal.Less = false
+is_opening false terminal.Less = true
 is_opening rounds _ = false

@@ -2,4 +2,4 @@
 pub mod Machine
 pub mod Outcome
 pub mod Shown
-pub mod Signed
+pub mod Spelled

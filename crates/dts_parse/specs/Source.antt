@@ -3,6 +3,7 @@ use Rattle.std.specs.Prelude.{◌≡◌, ◌≢◌, ◌<◌, ◌≤◌, ℕ, Boo
 use Rattle.std.specs.Prelude.{◌⊎◌}
 use Rattle.std.specs.List.{list_all}
 use Rattle.std.specs.Str.{bytes_eq}
+use Rattle.edt_base.specs.Ascii.{ampersand, asterisk, caret, colon, comma, equals, exclamation, greater_than, hyphen, left_brace, left_bracket, left_parenthesis, less_than, percent, plus, question, right_brace, right_bracket, right_parenthesis, semicolon, slash, tilde, vertical_bar}
 use Rattle.edt_base.specs.declared.fault.End.{End}
 use Rattle.edt_base.specs.declared.fault.End.TheVariants as ending
 use Rattle.edt_base.specs.declared.fault.Place.TheVariants as places
@@ -25,83 +26,86 @@ use Rattle.dts_parse.specs.Values.{Element, element_place, is_misfit, spell_elem
 use Rattle.dts_parse.specs.declared.expr.BinOp.TheVariants as op
 use Rattle.dts_parse.specs.declared.mode.Breach.{Breach}
 use Rattle.dts_parse.specs.declared.mode.Breach.TheVariants.{S1, S2, S5, S6}
-use Rattle.dts_parse.specs.declared.sign.Form.{Form}
-use Rattle.dts_parse.specs.declared.sign.Sign.{Sign}
-use Rattle.dts_parse.specs.declared.sign.Sign.TheVariants as sign
-use Rattle.dts_parse.specs.declared.sign.Width.{Width}
+use Rattle.dts_parse.specs.declared.terminal.Form.{Form}
+use Rattle.dts_parse.specs.declared.terminal.Terminal.{Terminal}
+use Rattle.dts_parse.specs.declared.terminal.Terminal.TheVariants as terminal
+use Rattle.dts_parse.specs.declared.terminal.Width.{Width}
 
 -- ---- tokens
 
-abbrev pub name_sign : Option Form → Sign
-name_sign None = sign.Other
-name_sign (Some f) = sign.Name f
+abbrev pub name_terminal : Option Form → Terminal
+name_terminal None = terminal.Other
+name_terminal (Some f) = terminal.Name f
 
-abbrev pub directive_sign : List ℕ → Sign
-directive_sign text =
-    if bytes_eq text (codes "/dts-v1/") then sign.Version
-    else if bytes_eq text (codes "/plugin/") then sign.Plugin
-    else if bytes_eq text (codes "/memreserve/") then sign.Reserve
-    else if bytes_eq text (codes "/delete-node/") then sign.DeleteNode
-    else if bytes_eq text (codes "/delete-property/") then sign.DeleteProp
-    else if bytes_eq text (codes "/omit-if-no-ref/") then sign.Omit
-    else if bytes_eq text (codes "/bits/") then sign.Bits
-    else sign.Include
+abbrev pub directive_terminal : List ℕ → Terminal
+directive_terminal text =
+    if bytes_eq text (codes "/dts-v1/") then terminal.Version
+    else if bytes_eq text (codes "/plugin/") then terminal.Plugin
+    else if bytes_eq text (codes "/memreserve/") then terminal.Reserve
+    else if bytes_eq text (codes "/delete-node/") then terminal.DeleteNode
+    else if bytes_eq text (codes "/delete-property/") then terminal.DeleteProp
+    else if bytes_eq text (codes "/omit-if-no-ref/") then terminal.Omit
+    else if bytes_eq text (codes "/bits/") then terminal.Bits
+    else terminal.Include
 
--- a sign of one byte
-abbrev pub byte_sign : ℕ → Sign
-byte_sign b =
-    if nat_eq b 123 then sign.LeftBrace else if nat_eq b 125 then sign.RightBrace
-    else if nat_eq b 91 then sign.LeftSquare else if nat_eq b 93 then sign.RightSquare
-    else if nat_eq b 40 then sign.LeftRound else if nat_eq b 41 then sign.RightRound
-    else if nat_eq b 60 then sign.Less else if nat_eq b 62 then sign.Greater
-    else if nat_eq b 47 then sign.Slash else if nat_eq b 58 then sign.Colon
-    else if nat_eq b 59 then sign.Semicolon else if nat_eq b 61 then sign.Equal
-    else if nat_eq b 44 then sign.Comma else if nat_eq b 45 then sign.Minus
-    else if nat_eq b 126 then sign.Tilde else if nat_eq b 33 then sign.Bang
-    else if nat_eq b 63 then sign.Question else if nat_eq b 42 then sign.Op op.Mul
-    else if nat_eq b 37 then sign.Op op.Rem else if nat_eq b 43 then sign.Op op.Add
-    else if nat_eq b 38 then sign.Op op.BitAnd else if nat_eq b 94 then sign.Op op.BitXor
-    else if nat_eq b 124 then sign.Op op.BitOr
-    else sign.Other
+-- a punctuator of one byte
+abbrev pub byte_terminal : ℕ → Terminal
+byte_terminal b =
+    if nat_eq b left_brace then terminal.LeftBrace else if nat_eq b right_brace then terminal.RightBrace
+    else if nat_eq b left_bracket then terminal.LeftSquare else if nat_eq b right_bracket then terminal.RightSquare
+    else if nat_eq b left_parenthesis then terminal.LeftRound
+    else if nat_eq b right_parenthesis then terminal.RightRound
+    else if nat_eq b less_than then terminal.Less else if nat_eq b greater_than then terminal.Greater
+    else if nat_eq b slash then terminal.Slash else if nat_eq b colon then terminal.Colon
+    else if nat_eq b semicolon then terminal.Semicolon else if nat_eq b equals then terminal.Equal
+    else if nat_eq b comma then terminal.Comma else if nat_eq b hyphen then terminal.Minus
+    else if nat_eq b tilde then terminal.Tilde else if nat_eq b exclamation then terminal.Bang
+    else if nat_eq b question then terminal.Question else if nat_eq b asterisk then terminal.Op op.Mul
+    else if nat_eq b percent then terminal.Op op.Rem else if nat_eq b plus then terminal.Op op.Add
+    else if nat_eq b ampersand then terminal.Op op.BitAnd else if nat_eq b caret then terminal.Op op.BitXor
+    else if nat_eq b vertical_bar then terminal.Op op.BitOr
+    else terminal.Other
 
 -- an operator of two bytes, by both
-abbrev pub double_sign : ℕ → ℕ → Sign
-double_sign a b =
-    if nat_eq b 61 then (if nat_eq a 60 then sign.Op op.Le else if nat_eq a 62 then sign.Op op.Ge
-    else if nat_eq a 61 then sign.Op op.Eq else sign.Op op.Ne)
-    else if nat_eq a 60 then sign.Op op.Shl
-    else if nat_eq a 62 then sign.Op op.Shr
-    else if nat_eq a 38 then sign.Op op.And
-    else sign.Op op.Or
+abbrev pub double_terminal : ℕ → ℕ → Terminal
+double_terminal a b =
+    if nat_eq b equals then (if nat_eq a less_than then terminal.Op op.Le
+    else if nat_eq a greater_than then terminal.Op op.Ge
+    else if nat_eq a equals then terminal.Op op.Eq else terminal.Op op.Ne)
+    else if nat_eq a less_than then terminal.Op op.Shl
+    else if nat_eq a greater_than then terminal.Op op.Shr
+    else if nat_eq a ampersand then terminal.Op op.And
+    else terminal.Op op.Or
 
-abbrev pub punct_sign : List ℕ → Sign
-punct_sign (b ∷ []) = byte_sign b
-punct_sign (a ∷ b ∷ []) = double_sign a b
-punct_sign _ = sign.Other
+abbrev pub punct_terminal : List ℕ → Terminal
+punct_terminal (b ∷ []) = byte_terminal b
+punct_terminal (a ∷ b ∷ []) = double_terminal a b
+punct_terminal _ = terminal.Other
 
 -- (the bytes of references are ASCII)
-abbrev pub ref_sign : List ℕ → Sign
-ref_sign text = if list_all is_ascii text then sign.Ref else sign.Other
+abbrev pub ref_terminal : List ℕ → Terminal
+ref_terminal text = if list_all is_ascii text then terminal.Ref else terminal.Other
 
-abbrev pub sign_of : SpanKind → List ℕ → Sign
-sign_of kind.Name text = name_sign (form_of text)
-sign_of kind.Number text = number text
-sign_of kind.Char text = sign.Char (char_worth text)
-sign_of kind.Str text = sign.Str
-sign_of kind.Ref text = ref_sign text
-sign_of kind.PathRef text = ref_sign text
-sign_of kind.Directive text = directive_sign text
-sign_of kind.Punct text = punct_sign text
-sign_of kind.HexPair text = sign.Pair (pair_worth text)
+abbrev pub terminal_of : SpanKind → List ℕ → Terminal
+terminal_of kind.Name text = name_terminal (form_of text)
+terminal_of kind.Number text = number text
+terminal_of kind.Char text = terminal.Char (char_worth text)
+terminal_of kind.Str text = terminal.Str
+terminal_of kind.Ref text = ref_terminal text
+terminal_of kind.PathRef text = ref_terminal text
+terminal_of kind.Directive text = directive_terminal text
+terminal_of kind.Punct text = punct_terminal text
+terminal_of kind.HexPair text = terminal.Pair (pair_worth text)
 
 -- the bytes of a span
 abbrev pub slice_of : List ℕ → Span → List ℕ
 slice_of src span = slice_range src span.start span.end
 
 abbrev pub token_of : List ℕ → Span → Token
-token_of src span = token (sign_of span.kind (slice_of src span)) (record { at = span.start; text = slice_of src span })
+token_of src span =
+    token (terminal_of span.kind (slice_of src span)) (record { at = span.start; text = slice_of src span })
 
--- these are the first tokens of the source, the last one first, and this is left behind them
+-- these are the first tokens of the source, the last one first, and this is left after them
 abbrev pub AreTokens : List ℕ → List Token → Left → Type 0
 AreTokens src [] left = left ≡ whole src
 AreTokens src (t ∷ before) left = (mid : Left) × (span : Span) × AreTokens src before mid
@@ -144,7 +148,7 @@ pub record IsS1 (src : List ℕ) (base : Bool) (at : ℕ) : Type 0 where
 -- 64 braces and brackets are open, and one more opens; or 4,096 tokens of an expression are read, and one more is taken
 -- in
 abbrev pub IsTooMuch : (base : Bool) → Front base → Token → Type 0
-IsTooMuch base f t = ((is_opening (in_expression f) t.sign ≡ true) × (64 ≤ nested f)) ⊎ ((4096 ≤ expression f)
+IsTooMuch base f t = ((is_opening (in_expression f) t.terminal ≡ true) × (64 ≤ nested f)) ⊎ ((4096 ≤ expression f)
     × ((g : Front base) × (spell_front g ≡ t ∷ spell_front f)))
 
 pub record IsS2 (src : List ℕ) (base : Bool) (at : ℕ) : Type 0 where
@@ -177,7 +181,7 @@ pub record IsS6 (src : List ℕ) (at : ℕ) : Type 0 where
   pub tokens : AreTokens src before left
   pub is : next_of left ≡ Ok (Some (span, next))
   pub place_is : at ≡ span.start
-  pub include : is_include (sign_of span.kind (slice_of src span)) ≡ true
+  pub include : is_include (terminal_of span.kind (slice_of src span)) ≡ true
 
 abbrev pub IsBroken : List ℕ → Bool → Breach → ℕ → Type 0
 IsBroken src base S1 at = IsS1 src base at

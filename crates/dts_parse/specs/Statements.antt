@@ -7,10 +7,10 @@ use Rattle.dts_parse.specs.Values.{Before, Labels, Written, part_of, parts_of, s
 use Rattle.dts_parse.specs.declared.mode.Stage.{Stage}
 use Rattle.dts_parse.specs.declared.mode.Stage.TheVariants as stage
 use Rattle.dts_parse.specs.declared.script.Target.TheVariants as target
-use Rattle.dts_parse.specs.declared.sign.Form.{Form}
-use Rattle.dts_parse.specs.declared.sign.Form.TheVariants as form
-use Rattle.dts_parse.specs.declared.sign.Sign.{Sign}
-use Rattle.dts_parse.specs.declared.sign.Sign.TheVariants as sign
+use Rattle.dts_parse.specs.declared.terminal.Form.{Form}
+use Rattle.dts_parse.specs.declared.terminal.Form.TheVariants as form
+use Rattle.dts_parse.specs.declared.terminal.Terminal.{Terminal}
+use Rattle.dts_parse.specs.declared.terminal.Terminal.TheVariants as terminal
 
 -- ---- labels and marks before a name, `/` or a reference, in any order
 
@@ -21,8 +21,9 @@ pub data Lead : Type 0 where
 
 abbrev pub spell_lead : Lead → List Token → List Token
 spell_lead No_lead before = before
-spell_lead (Label_lead lead n colon) before = token sign.Colon colon ∷ name_token form.Label n ∷ spell_lead lead before
-spell_lead (Mark_lead lead directive) before = token sign.Omit directive ∷ spell_lead lead before
+spell_lead (Label_lead lead n colon) before =
+    token terminal.Colon colon ∷ name_token form.Label n ∷ spell_lead lead before
+spell_lead (Mark_lead lead directive) before = token terminal.Omit directive ∷ spell_lead lead before
 
 -- each label is a statement of its own
 abbrev pub labels_of : Lead → List StmtData
@@ -40,7 +41,7 @@ abbrev pub is_empty : {A : Type 0} → List A → Bool
 is_empty [] = true
 is_empty (x ∷ xs) = false
 
--- a mark is a statement on the child, behind its end
+-- a mark is a statement on the child, after its end
 abbrev pub omits : List ℕ → List ℕ → List StmtData
 omits [] name = []
 omits (at ∷ marks) name = stmt at (Omit (target.Child name)) ∷ omits marks name
@@ -107,9 +108,9 @@ pub data Numeral : Type 0 where
   Small_ : ℕ → Numeral
   Large_ : Numeral
 
-abbrev pub numeral_sign : Numeral → Sign
-numeral_sign (Small_ n) = sign.Number n
-numeral_sign Large_ = sign.Huge
+abbrev pub numeral_terminal : Numeral → Terminal
+numeral_terminal (Small_ n) = terminal.Number n
+numeral_terminal Large_ = terminal.Huge
 
 -- ---- statements that only want their semicolon
 
@@ -124,15 +125,15 @@ pub data Short : Type 0 where
   End_node : (brace : Spot) → Short
 
 abbrev pub spell_short : Short → List Token → List Token
-spell_short (Version_ d) before = token sign.Version d ∷ before
-spell_short (Plugin_ d) before = token sign.Plugin d ∷ before
+spell_short (Version_ d) before = token terminal.Version d ∷ before
+spell_short (Plugin_ d) before = token terminal.Plugin d ∷ before
 spell_short (Reserve_ d m p n q) before =
-    token (numeral_sign n) q ∷ token (numeral_sign m) p ∷ token sign.Reserve d ∷ before
-spell_short (Delete_ref d p) before = token sign.Ref p ∷ token sign.DeleteNode d ∷ before
-spell_short (Omit_ref d p) before = token sign.Ref p ∷ token sign.Omit d ∷ before
-spell_short (Delete_child d f n is) before = name_token f n ∷ token sign.DeleteNode d ∷ before
-spell_short (Delete_prop d f n is) before = name_token f n ∷ token sign.DeleteProp d ∷ before
-spell_short (End_node brace) before = token sign.RightBrace brace ∷ before
+    token (numeral_terminal n) q ∷ token (numeral_terminal m) p ∷ token terminal.Reserve d ∷ before
+spell_short (Delete_ref d p) before = token terminal.Ref p ∷ token terminal.DeleteNode d ∷ before
+spell_short (Omit_ref d p) before = token terminal.Ref p ∷ token terminal.Omit d ∷ before
+spell_short (Delete_child d f n is) before = name_token f n ∷ token terminal.DeleteNode d ∷ before
+spell_short (Delete_prop d f n is) before = name_token f n ∷ token terminal.DeleteProp d ∷ before
+spell_short (End_node brace) before = token terminal.RightBrace brace ∷ before
 
 -- where it may stand
 abbrev pub takes_short : Place → Short → Bool
@@ -150,7 +151,7 @@ place_behind p (Version_ d) = early p
 place_behind p (End_node brace) = outside p
 place_behind p _ = beyond p
 
--- the statements behind it
+-- the statements after it
 abbrev pub with_short : Place → Short → List StmtData → List StmtData
 with_short p (Version_ d) before = before
 with_short p (Plugin_ d) before = before
@@ -175,19 +176,19 @@ pub data Pieces : Type 0 where
 
 abbrev pub spell_pieces : Pieces → List Token
 spell_pieces Nothing_yet = []
-spell_pieces (Short_ ps s semicolon) = token sign.Semicolon semicolon ∷ spell_short s (spell_pieces ps)
+spell_pieces (Short_ ps s semicolon) = token terminal.Semicolon semicolon ∷ spell_short s (spell_pieces ps)
 spell_pieces (Open_root ps lead slash brace) =
-    token sign.LeftBrace brace ∷ token sign.Slash slash ∷ spell_lead lead (spell_pieces ps)
+    token terminal.LeftBrace brace ∷ token terminal.Slash slash ∷ spell_lead lead (spell_pieces ps)
 spell_pieces (Open_ref ps lead ref brace) =
-    token sign.LeftBrace brace ∷ token sign.Ref ref ∷ spell_lead lead (spell_pieces ps)
+    token terminal.LeftBrace brace ∷ token terminal.Ref ref ∷ spell_lead lead (spell_pieces ps)
 spell_pieces (Open_child ps lead f n brace) =
-    token sign.LeftBrace brace ∷ name_token f n ∷ spell_lead lead (spell_pieces ps)
+    token terminal.LeftBrace brace ∷ name_token f n ∷ spell_lead lead (spell_pieces ps)
 spell_pieces (Flag_ ps lead f n semicolon) =
-    token sign.Semicolon semicolon ∷ name_token f n ∷ spell_lead lead (spell_pieces ps)
+    token terminal.Semicolon semicolon ∷ name_token f n ∷ spell_lead lead (spell_pieces ps)
 spell_pieces (Assign_ ps lead f n equal b ls part after semicolon) =
-    token sign.Semicolon semicolon ∷ spell_labels after
+    token terminal.Semicolon semicolon ∷ spell_labels after
     (spell_written part (spell_labels ls
-    (spell_before b (token sign.Equal equal ∷ name_token f n ∷ spell_lead lead (spell_pieces ps)))))
+    (spell_before b (token terminal.Equal equal ∷ name_token f n ∷ spell_lead lead (spell_pieces ps)))))
 
 -- where they lead, from the beginning of a base or an overlay
 abbrev pub place : Bool → Pieces → Place
@@ -214,7 +215,7 @@ AreFit base (Flag_ ps lead f n semicolon) = AreFit base ps × (takes_inner (plac
 AreFit base (Assign_ ps lead f n equal b ls part after semicolon) =
     AreFit base ps × (takes_inner (place base ps) ≡ true) × (is_empty (marks_of lead) ≡ true) × (is_prop_form f ≡ true)
 
--- the statements: a node's labels behind its opening, its marks behind its end
+-- the statements: a node's labels after its opening, its marks after its end
 abbrev pub script : Bool → Pieces → List StmtData
 script base Nothing_yet = []
 script base (Short_ ps s semicolon) = with_short (place base ps) s (script base ps)

@@ -6,10 +6,10 @@ use Rattle.dts_parse.specs.declared.expr.BinOp.{BinOp}
 use Rattle.dts_parse.specs.declared.expr.BinOp.TheVariants as op
 use Rattle.dts_parse.specs.declared.expr.UnOp.{UnOp}
 use Rattle.dts_parse.specs.declared.expr.UnOp.TheVariants as sole
-use Rattle.dts_parse.specs.declared.sign.Form.{Form}
-use Rattle.dts_parse.specs.declared.sign.Form.TheVariants as form
-use Rattle.dts_parse.specs.declared.sign.Sign.{Sign}
-use Rattle.dts_parse.specs.declared.sign.Sign.TheVariants as sign
+use Rattle.dts_parse.specs.declared.terminal.Form.{Form}
+use Rattle.dts_parse.specs.declared.terminal.Form.TheVariants as form
+use Rattle.dts_parse.specs.declared.terminal.Terminal.{Terminal}
+use Rattle.dts_parse.specs.declared.terminal.Terminal.TheVariants as terminal
 
 -- where a token begins, and its bytes
 pub record Spot : Type 0 where
@@ -17,11 +17,11 @@ pub record Spot : Type 0 where
   pub text : List ℕ
 
 pub record Token : Type 0 where
-  pub sign : Sign
+  pub terminal : Terminal
   pub spot : Spot
 
-abbrev pub token : Sign → Spot → Token
-token s p = record { sign = s; spot = p }
+abbrev pub token : Terminal → Spot → Token
+token s p = record { terminal = s; spot = p }
 
 -- ---- names
 
@@ -58,39 +58,39 @@ pub record Name (f : Form) : Type 0 where
   pub is : form_of spot.text ≡ Some f
 
 abbrev pub name_token : (f : Form) → Name f → Token
-name_token f n = token (sign.Name f) n.spot
+name_token f n = token (terminal.Name f) n.spot
 
 -- ---- operators
 
-abbrev pub un_sign : UnOp → Sign
-un_sign sole.Neg = sign.Minus
-un_sign sole.Flip = sign.Tilde
-un_sign sole.Not = sign.Bang
+abbrev pub un_terminal : UnOp → Terminal
+un_terminal sole.Neg = terminal.Minus
+un_terminal sole.Flip = terminal.Tilde
+un_terminal sole.Not = terminal.Bang
 
-abbrev pub un_of : Sign → Option UnOp
-un_of sign.Minus = Some sole.Neg
-un_of sign.Tilde = Some sole.Flip
-un_of sign.Bang = Some sole.Not
+abbrev pub un_of : Terminal → Option UnOp
+un_of terminal.Minus = Some sole.Neg
+un_of terminal.Tilde = Some sole.Flip
+un_of terminal.Bang = Some sole.Not
 un_of _ = None
 
--- the operators that are other signs too
-abbrev pub bin_sign : BinOp → Sign
-bin_sign op.Sub = sign.Minus
-bin_sign op.Div = sign.Slash
-bin_sign op.Lt = sign.Less
-bin_sign op.Gt = sign.Greater
-bin_sign o = sign.Op o
+-- the operators that are other terminals too
+abbrev pub bin_terminal : BinOp → Terminal
+bin_terminal op.Sub = terminal.Minus
+bin_terminal op.Div = terminal.Slash
+bin_terminal op.Lt = terminal.Less
+bin_terminal op.Gt = terminal.Greater
+bin_terminal o = terminal.Op o
 
-abbrev pub bin_of : Sign → Option BinOp
-bin_of sign.Minus = Some op.Sub
-bin_of sign.Slash = Some op.Div
-bin_of sign.Less = Some op.Lt
-bin_of sign.Greater = Some op.Gt
-bin_of (sign.Op op.Sub) = None
-bin_of (sign.Op op.Div) = None
-bin_of (sign.Op op.Lt) = None
-bin_of (sign.Op op.Gt) = None
-bin_of (sign.Op o) = Some o
+abbrev pub bin_of : Terminal → Option BinOp
+bin_of terminal.Minus = Some op.Sub
+bin_of terminal.Slash = Some op.Div
+bin_of terminal.Less = Some op.Lt
+bin_of terminal.Greater = Some op.Gt
+bin_of (terminal.Op op.Sub) = None
+bin_of (terminal.Op op.Div) = None
+bin_of (terminal.Op op.Lt) = None
+bin_of (terminal.Op op.Gt) = None
+bin_of (terminal.Op o) = Some o
 bin_of _ = None
 
 -- the strength of an operator: the least level binds tightest
@@ -115,6 +115,6 @@ op_level op.And = 10
 op_level op.Or = 11
 
 -- a directive that asks for another file
-abbrev pub is_include : Sign → Bool
-is_include sign.Include = true
+abbrev pub is_include : Terminal → Bool
+is_include terminal.Include = true
 is_include _ = false

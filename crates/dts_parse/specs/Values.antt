@@ -1,7 +1,7 @@
 -- Values of properties: their trees, what they spell and what they stand for.
 use Rattle.std.specs.Prelude.{◌≡◌, ℕ, ◌%◌, ◌^◌, Bool, true, false, not, ◌||◌, List, [], ◌∷◌, ◌++◌, Option, Some, None, unwrap_or}
 use Rattle.edt_base.specs.declared.node.Kind.TheVariants as kind
-use Rattle.dts_parse.specs.Exprs.{Literal, Tree, literal_sign, literal_worth, or_large, large, worth_of, IsProper, spell}
+use Rattle.dts_parse.specs.Exprs.{Literal, Tree, literal_terminal, literal_worth, or_large, large, worth_of, IsProper, spell}
 use Rattle.dts_parse.specs.StmtData.{PartData, Plain, Cells, Path}
 use Rattle.dts_parse.specs.Texts.{element_bytes, fits, target_of, text_bytes, width_of}
 use Rattle.dts_parse.specs.Token.{Name, Spot, Token, name_token, token}
@@ -9,10 +9,10 @@ use Rattle.dts_parse.specs.declared.mode.Listing.{Listing}
 use Rattle.dts_parse.specs.declared.mode.Listing.TheVariants as listing
 use Rattle.dts_parse.specs.declared.script.RawCell.{RawCell}
 use Rattle.dts_parse.specs.declared.script.RawCell.TheVariants as cell
-use Rattle.dts_parse.specs.declared.sign.Form.TheVariants as form
-use Rattle.dts_parse.specs.declared.sign.Sign.TheVariants as sign
-use Rattle.dts_parse.specs.declared.sign.Width.{Width}
-use Rattle.dts_parse.specs.declared.sign.Width.TheVariants.{Bits8, Bits32}
+use Rattle.dts_parse.specs.declared.terminal.Form.TheVariants as form
+use Rattle.dts_parse.specs.declared.terminal.Terminal.TheVariants as terminal
+use Rattle.dts_parse.specs.declared.terminal.Width.{Width}
+use Rattle.dts_parse.specs.declared.terminal.Width.TheVariants.{Bits8, Bits32}
 
 -- ---- labels: each a name and a colon
 
@@ -22,7 +22,7 @@ pub data Labels : Type 0 where
 
 abbrev pub spell_labels : Labels → List Token → List Token
 spell_labels No_labels before = before
-spell_labels (Label_ ls n colon) before = token sign.Colon colon ∷ name_token form.Label n ∷ spell_labels ls before
+spell_labels (Label_ ls n colon) before = token terminal.Colon colon ∷ name_token form.Label n ∷ spell_labels ls before
 
 -- ---- elements of a list
 
@@ -32,10 +32,10 @@ pub data Element (w : Width) : Type 0 where
   Refer : w ≡ Bits32 → Spot → Element w
 
 abbrev pub spell_element : {w : Width} → Element w → List Token → List Token
-spell_element (Lone l p) before = token (literal_sign l) p ∷ before
+spell_element (Lone l p) before = token (literal_terminal l) p ∷ before
 spell_element (Group begin e proper finish) before =
-    token sign.RightRound finish ∷ spell e (token sign.LeftRound begin ∷ before)
-spell_element (Refer is p) before = token sign.Ref p ∷ before
+    token terminal.RightRound finish ∷ spell e (token terminal.LeftRound begin ∷ before)
+spell_element (Refer is p) before = token terminal.Ref p ∷ before
 
 -- the elements of a list, with the labels before each
 pub data Elements (w : Width) : Type 0 where
@@ -102,7 +102,7 @@ pub data Pairs : Type 0 where
 
 abbrev pub spell_pairs : Pairs → List Token → List Token
 spell_pairs No_pair before = before
-spell_pairs (And_pair ps ls byte p) before = token (sign.Pair byte) p ∷ spell_labels ls (spell_pairs ps before)
+spell_pairs (And_pair ps ls byte p) before = token (terminal.Pair byte) p ∷ spell_labels ls (spell_pairs ps before)
 
 abbrev pub pair_bytes : Pairs → List ℕ
 pair_bytes No_pair = []
@@ -120,9 +120,9 @@ pub data Head (w : Width) : Type 0 where
   Bits_ : (directive : Spot) → (n : ℕ) → width_of n ≡ Some w → (number begin : Spot) → Head w
 
 abbrev pub spell_head : {w : Width} → Head w → List Token → List Token
-spell_head (Angle_ is begin) before = token sign.Less begin ∷ before
+spell_head (Angle_ is begin) before = token terminal.Less begin ∷ before
 spell_head (Bits_ directive n is number begin) before =
-    token sign.Less begin ∷ token (sign.Number n) number ∷ token sign.Bits directive ∷ before
+    token terminal.Less begin ∷ token (terminal.Number n) number ∷ token terminal.Bits directive ∷ before
 
 pub data Written : Type 0 where
   Text_ : Spot → Written
@@ -133,12 +133,12 @@ pub data Written : Type 0 where
       → Written
 
 abbrev pub spell_written : Written → List Token → List Token
-spell_written (Text_ p) before = token sign.Str p ∷ before
-spell_written (Path_ p) before = token sign.Ref p ∷ before
+spell_written (Text_ p) before = token terminal.Str p ∷ before
+spell_written (Path_ p) before = token terminal.Ref p ∷ before
 spell_written (List_ w h es ls ends finish) before =
-    token sign.Greater finish ∷ spell_labels ls (spell_elements es (spell_head h before))
+    token terminal.Greater finish ∷ spell_labels ls (spell_elements es (spell_head h before))
 spell_written (Hex_ begin ps ls ends finish) before =
-    token sign.RightSquare finish ∷ spell_labels ls (spell_pairs ps (token sign.LeftSquare begin ∷ before))
+    token terminal.RightSquare finish ∷ spell_labels ls (spell_pairs ps (token terminal.LeftSquare begin ∷ before))
 
 -- a list of 8 bits is bytes, one of 32 cells, the others are wide
 abbrev pub list_data : Width → List RawCell → List ℕ → PartData
@@ -160,7 +160,7 @@ pub data Before : Type 0 where
 abbrev pub spell_before : Before → List Token → List Token
 spell_before Nothing before = before
 spell_before (Comma_ b ls part after comma) before =
-    token sign.Comma comma ∷ spell_labels after (spell_written part (spell_labels ls (spell_before b before)))
+    token terminal.Comma comma ∷ spell_labels after (spell_written part (spell_labels ls (spell_before b before)))
 
 abbrev pub parts_of : Before → List PartData
 parts_of Nothing = []

@@ -9,14 +9,14 @@ ghost use Rattle.dts_parse.specs.Inner.Shown.{Leaves, shown};
 ghost use Rattle.dts_parse.specs.Token.{bin_of, op_level, un_of};
 ghost use Rattle.dts_parse.specs.declared.mode.Frame.TheVariants as frame;
 ghost use Rattle.dts_parse.specs.declared.mode.Mode.TheVariants as mode;
-ghost use Rattle.dts_parse.specs.declared.sign.Sign.TheVariants as sign;
+ghost use Rattle.dts_parse.specs.declared.terminal.Terminal.TheVariants as terminal;
 
 use crate::expr::BinOp;
 use crate::frames::{COND_LEVEL, TEST_LEVEL, bin_of, climb, op_level, un_of};
 use crate::mode::{Breach, Frame, Mode};
 use crate::parser::Parser;
-use crate::sign::{Sign, Width};
 use crate::stop::Stop;
+use crate::terminal::{Terminal, Width};
 use crate::token::Token;
 
 /// How many tokens an element's expression may have.
@@ -31,16 +31,16 @@ fn more(long: u32) -> u32
 impl<'a> Parser<'a> {
     /// Where an operand begins.
     pub(crate) fn before_operand(&mut self, width: Width, token: &Token<'a>) -> Result<(), Stop>
-        requires { is_opening true token.now.sign ≡ true → (shown self.old).depth < 64 }
+        requires { is_opening true token.now.terminal ≡ true → (shown self.old).depth < 64 }
         ensures { Leaves (shown self.new) result
-            (before_operand width (shown self.old) token.now.spot token.now.sign) }
+            (before_operand width (shown self.old) token.now.spot token.now.terminal) }
     {
-        match token.sign {
-            Sign::Number(n) => self.operand_is(width, self.huge, Some(n)),
-            Sign::Huge => self.operand_is(width, true, None),
-            Sign::Char(byte) => self.operand_is(width, self.huge, Some(u64::from(byte))),
-            Sign::LeftRound => self.at_round(),
-            sign => match un_of(sign) {
+        match token.terminal {
+            Terminal::Number(n) => self.operand_is(width, self.huge, Some(n)),
+            Terminal::Huge => self.operand_is(width, true, None),
+            Terminal::Char(byte) => self.operand_is(width, self.huge, Some(u64::from(byte))),
+            Terminal::LeftRound => self.at_round(),
+            terminal => match un_of(terminal) {
                 Some(op) => self.waits(width, Frame::Un(op)),
                 None => Err(Stop::Broken(Breach::S1, token.at)),
             },
@@ -91,13 +91,13 @@ impl<'a> Parser<'a> {
         token: &Token<'a>,
     ) -> Result<(), Stop>
         ensures { Leaves (shown self.new) result
-            (behind_operand width worth (shown self.old) token.now.spot token.now.sign) }
+            (behind_operand width worth (shown self.old) token.now.spot token.now.terminal) }
     {
-        match token.sign {
-            Sign::RightRound => self.closed_round(width, worth, token),
-            Sign::Colon => self.chosen(width, worth, token),
-            Sign::Question => self.tested(width, worth),
-            sign => match bin_of(sign) {
+        match token.terminal {
+            Terminal::RightRound => self.closed_round(width, worth, token),
+            Terminal::Colon => self.chosen(width, worth, token),
+            Terminal::Question => self.tested(width, worth),
+            terminal => match bin_of(terminal) {
                 Some(op) => self.joined(width, worth, op),
                 None => Err(Stop::Broken(Breach::S1, token.at)),
             },

@@ -7,7 +7,7 @@ ghost use Rattle.dts_parse.specs.Worth.{bin, cond, un, with_left};
 
 use crate::expr::{BinOp, UnOp, decided, is_true, strict, un};
 use crate::mode::Frame;
-use crate::sign::Sign;
+use crate::terminal::Terminal;
 
 /// The strength of an operator: the least level binds tightest (ISO C, 6.5).
 pub(crate) fn op_level(op: BinOp) -> u32
@@ -33,29 +33,29 @@ pub(crate) const COND_LEVEL: u32 = 12;
 /// The level in front of `?`.
 pub(crate) const TEST_LEVEL: u32 = 11;
 
-/// The operator before an operand that a sign is.
-pub(crate) fn un_of(sign: Sign) -> Option<UnOp>
-    ensures { result ≡ un_of sign }
+/// The operator before an operand that a terminal is.
+pub(crate) fn un_of(terminal: Terminal) -> Option<UnOp>
+    ensures { result ≡ un_of terminal }
 {
-    match sign {
-        Sign::Minus => Some(UnOp::Neg),
-        Sign::Tilde => Some(UnOp::Flip),
-        Sign::Bang => Some(UnOp::Not),
+    match terminal {
+        Terminal::Minus => Some(UnOp::Neg),
+        Terminal::Tilde => Some(UnOp::Flip),
+        Terminal::Bang => Some(UnOp::Not),
         _ => None,
     }
 }
 
-/// The operator between operands that a sign is.
-pub(crate) fn bin_of(sign: Sign) -> Option<BinOp>
-    ensures { result ≡ bin_of sign }
+/// The operator between operands that a terminal is.
+pub(crate) fn bin_of(terminal: Terminal) -> Option<BinOp>
+    ensures { result ≡ bin_of terminal }
 {
-    match sign {
-        Sign::Minus => Some(BinOp::Sub),
-        Sign::Slash => Some(BinOp::Div),
-        Sign::Less => Some(BinOp::Lt),
-        Sign::Greater => Some(BinOp::Gt),
-        Sign::Op(BinOp::Sub | BinOp::Div | BinOp::Lt | BinOp::Gt) => None,
-        Sign::Op(op) => Some(op),
+    match terminal {
+        Terminal::Minus => Some(BinOp::Sub),
+        Terminal::Slash => Some(BinOp::Div),
+        Terminal::Less => Some(BinOp::Lt),
+        Terminal::Greater => Some(BinOp::Gt),
+        Terminal::Op(BinOp::Sub | BinOp::Div | BinOp::Lt | BinOp::Gt) => None,
+        Terminal::Op(op) => Some(op),
         _ => None,
     }
 }

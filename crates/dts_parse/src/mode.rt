@@ -1,7 +1,7 @@
 //! Where in the grammar a parser stands.
 
 use crate::expr::{BinOp, UnOp};
-use crate::sign::{Form, Width};
+use crate::terminal::{Form, Width};
 
 /// Which statements stood at the top so far.
 #[derive(Clone, Copy)]
@@ -45,7 +45,7 @@ pub(crate) enum Listing {
 /// A place in the grammar.
 #[derive(Clone, Copy)]
 pub(crate) enum Mode {
-    /// Where a statement may begin, or behind labels and marks.
+    /// Where a statement may begin, or after labels and marks.
     Body,
     /// Behind a name, which may be a label, a node or a property.
     Named(Form),
@@ -80,7 +80,7 @@ pub(crate) enum Frame {
     Round,
     /// An operator before its operand.
     Un(UnOp),
-    /// A left operand's worth, and the operator behind it.
+    /// A left operand's worth, and the operator after it.
     Bin(BinOp, Option<u64>),
     /// What stands before `?` is worth this.
     Cond(Option<u64>),

@@ -7,7 +7,7 @@ ghost use Rattle.edt_base.specs.SourceBytes.{is_node_byte, is_plain, is_prop_byt
 ghost use Rattle.dts_parse.specs.Token.{form_of, is_ascii, name_form};
 
 use crate::bytes::{begins_label, is_ascii, is_node_byte, is_plain, is_prop_byte};
-use crate::sign::Form;
+use crate::terminal::Form;
 
 /// What a word can be the name of.
 pub(crate) fn form_of(text: &[u8]) -> Option<Form>
@@ -54,12 +54,12 @@ fn all_plain(text: &[u8]) -> bool
 fn is_node_name(text: &[u8]) -> bool
     ensures { result ≡ is_node_name text.now }
 {
-    let (word, unit) = text.split_at(sign_place(text));
+    let (word, unit) = text.split_at(at_place(text));
     is_node_word(word) && is_unit(unit)
 }
 
 /// How many bytes stand before the first `@`.
-fn sign_place(text: &[u8]) -> usize
+fn at_place(text: &[u8]) -> usize
     ensures place { result ≡ prefix_len is_no_at text.now }
     ensures within { result ≤ length text.now }
 {

@@ -3,14 +3,14 @@
 ghost use Rattle.std.specs.Prelude.{◌≡◌, ◌≤◌, ◌<◌, Some, length, drop, take};
 ghost use Rattle.std.specs.List.{prefix_len};
 ghost use Rattle.edt_base.specs.SourceBytes.{is_digit, is_hex, is_octal};
-ghost use Rattle.dts_parse.specs.Numbers.{digits_worth, is_l, is_long, is_suffix, is_u, number, number_of_digits, number_sign, with_digit};
+ghost use Rattle.dts_parse.specs.Numbers.{digits_worth, is_l, is_long, is_suffix, is_u, number, number_of_digits, number_terminal, with_digit};
 ghost use Rattle.dts_parse.specs.Texts.{digit};
 
 use crate::bytes::{digit, is_digit, is_hex, is_octal};
-use crate::sign::Sign;
+use crate::terminal::Terminal;
 
-/// A word as a number: decimal, octal with a leading 0 or hexadecimal behind `0x`, with a suffix.
-pub(crate) fn number(text: &[u8]) -> Sign
+/// A word as a number: decimal, octal with a leading 0 or hexadecimal after `0x`, with a suffix.
+pub(crate) fn number(text: &[u8]) -> Terminal
     ensures { result ≡ number text.now }
 {
     if text.starts_with(b"0x") {
@@ -44,25 +44,25 @@ fn decimal_length(text: &[u8]) -> usize
     text.iter().take_while(|byte| is_digit(**byte)).count()
 }
 
-/// The number that so many digits at the front are, with a suffix behind them.
-fn number_of_digits(base: u64, count: usize, text: &[u8]) -> Sign
+/// The number that so many digits at the front are, with a suffix after them.
+fn number_of_digits(base: u64, count: usize, text: &[u8]) -> Terminal
     requires { count ≤ length text.now }
     ensures { result ≡ number_of_digits base count text.now }
 {
     let (digits, rest) = text.split_at(count);
     if count > 0 && is_suffix(rest) {
-        number_sign(digits_worth(base, digits))
+        number_terminal(digits_worth(base, digits))
     } else {
-        Sign::Other
+        Terminal::Other
     }
 }
 
-fn number_sign(n: Option<u64>) -> Sign
-    ensures { result ≡ number_sign n }
+fn number_terminal(n: Option<u64>) -> Terminal
+    ensures { result ≡ number_terminal n }
 {
     match n {
-        None => Sign::Huge,
-        Some(n) => Sign::Number(n),
+        None => Terminal::Huge,
+        Some(n) => Terminal::Number(n),
     }
 }
 

@@ -9,8 +9,8 @@ ghost use Rattle.dts_parse.specs.Inner.Shown.{Leaves, shown};
 use crate::expressions::MOST_TOKENS;
 use crate::mode::{Breach, Frame, Mode, Stage};
 use crate::script::{RawCell, RawPart, Stmt};
-use crate::sign::Sign;
 use crate::stop::Stop;
+use crate::terminal::Terminal;
 use crate::token::Token;
 use std::alloc::Global;
 use std::marker::Model;
@@ -89,19 +89,19 @@ pub(crate) struct Parser<'a> {
 /// How many braces and brackets may be open.
 const MOST_OPEN: u32 = 64;
 
-fn is_include(sign: Sign) -> bool
-    ensures { result ≡ is_include sign }
+fn is_include(terminal: Terminal) -> bool
+    ensures { result ≡ is_include terminal }
 {
-    matches!(sign, Sign::Include)
+    matches!(terminal, Terminal::Include)
 }
 
 /// A brace or bracket that opens; in expressions `<` is an operator.
-fn is_opening(rounds: bool, sign: Sign) -> bool
-    ensures { result ≡ is_opening rounds sign }
+fn is_opening(rounds: bool, terminal: Terminal) -> bool
+    ensures { result ≡ is_opening rounds terminal }
 {
-    match sign {
-        Sign::LeftBrace | Sign::LeftSquare | Sign::LeftRound => true,
-        Sign::Less => !rounds,
+    match terminal {
+        Terminal::LeftBrace | Terminal::LeftSquare | Terminal::LeftRound => true,
+        Terminal::Less => !rounds,
         _ => false,
     }
 }
@@ -160,10 +160,10 @@ impl<'a> Parser<'a> {
     pub(crate) fn take(&mut self, alloc: Global, token: &Token<'a>) -> Result<(), Stop>
         ensures { Leaves (shown self.new) result (step (shown self.old) token.now) }
     {
-        if is_include(token.sign) {
+        if is_include(token.terminal) {
             return Err(Stop::Broken(Breach::S6, token.at));
         }
-        if is_opening(in_rounds(self.mode), token.sign) && self.depth >= MOST_OPEN {
+        if is_opening(in_rounds(self.mode), token.terminal) && self.depth >= MOST_OPEN {
             return Err(Stop::Broken(Breach::S2, token.at));
         }
         if self.long >= MOST_TOKENS {
@@ -175,10 +175,10 @@ impl<'a> Parser<'a> {
 
     /// Behind as many tokens as an expression may have: one that continues it is too many.
     fn take_limited(&mut self, alloc: Global, token: &Token<'a>) -> Result<(), Stop>
-        requires { is_opening (in_rounds (shown self.old).mode) token.now.sign ≡ true
+        requires { is_opening (in_rounds (shown self.old).mode) token.now.terminal ≡ true
             → (shown self.old).depth < 64 }
         ensures { Leaves (shown self.new) result
-            (limited token.now.spot (taken (shown self.old) token.now.spot token.now.sign)) }
+            (limited token.now.spot (taken (shown self.old) token.now.spot token.now.terminal)) }
     {
         let at = token.at;
         match self.take_token(alloc, token) {
@@ -190,10 +190,10 @@ impl<'a> Parser<'a> {
     }
 
     fn take_token(&mut self, alloc: Global, token: &Token<'a>) -> Result<(), Stop>
-        requires { is_opening (in_rounds (shown self.old).mode) token.now.sign ≡ true
+        requires { is_opening (in_rounds (shown self.old).mode) token.now.terminal ≡ true
             → (shown self.old).depth < 64 }
         ensures { Leaves (shown self.new) result
-            (taken (shown self.old) token.now.spot token.now.sign) }
+            (taken (shown self.old) token.now.spot token.now.terminal) }
     {
         if self.colon {
             return self.at_colon(token);

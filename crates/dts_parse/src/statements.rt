@@ -12,14 +12,14 @@ ghost use Rattle.dts_parse.specs.Token.{is_ascii, is_label_form, is_node_form, i
 ghost use Rattle.dts_parse.specs.declared.mode.Mode.TheVariants as mode;
 ghost use Rattle.dts_parse.specs.declared.mode.Wanted.TheVariants as wanted;
 ghost use Rattle.dts_parse.specs.declared.script.Target.TheVariants as target;
-ghost use Rattle.dts_parse.specs.declared.sign.Sign.TheVariants as sign;
+ghost use Rattle.dts_parse.specs.declared.terminal.Terminal.TheVariants as terminal;
 
 use crate::mode::{Breach, Mode, Stage, Wanted};
 use crate::parser::{Name, Parser, Pending};
 use crate::script::{Act, Stmt, Target};
-use crate::sign::{Form, Sign};
 use crate::stop::Stop;
 use crate::targets::{omits, target_of, text_of};
+use crate::terminal::{Form, Terminal};
 use crate::token::Token;
 use std::alloc::Global;
 
@@ -106,30 +106,30 @@ impl<'a> Parser<'a> {
             || (self.takes_top() && is_label_form(form))
     }
 
-    /// Where a statement may begin, or behind labels and marks.
+    /// Where a statement may begin, or after labels and marks.
     pub(crate) fn in_body(&mut self, alloc: Global, token: &Token<'a>) -> Result<(), Stop>
         ensures { Leaves (shown self.new) result
-            (in_body (shown self.old) token.now.spot token.now.sign) }
+            (in_body (shown self.old) token.now.spot token.now.terminal) }
     {
-        match token.sign {
-            Sign::Name(form) => self.at_name(token, form),
-            Sign::Slash => self.at_root(token),
-            Sign::Ref => self.at_ref_opening(alloc, token),
-            Sign::Omit => self.at_mark(token),
-            Sign::RightBrace => self.at_close(token),
-            Sign::Version => self.at_version(token),
-            Sign::Plugin => self.at_plugin(token),
-            Sign::Reserve => self.at_reserve(token),
-            Sign::DeleteNode => self.at_deletion(token),
-            Sign::DeleteProp => self.at_prop_deletion(token),
+        match token.terminal {
+            Terminal::Name(form) => self.at_name(token, form),
+            Terminal::Slash => self.at_root(token),
+            Terminal::Ref => self.at_ref_opening(alloc, token),
+            Terminal::Omit => self.at_mark(token),
+            Terminal::RightBrace => self.at_close(token),
+            Terminal::Version => self.at_version(token),
+            Terminal::Plugin => self.at_plugin(token),
+            Terminal::Reserve => self.at_reserve(token),
+            Terminal::DeleteNode => self.at_deletion(token),
+            Terminal::DeleteProp => self.at_prop_deletion(token),
             _ => Err(Stop::Broken(Breach::S1, token.at)),
         }
     }
 
     fn at_name(&mut self, token: &Token<'a>, form: Form) -> Result<(), Stop>
-        requires { token.now.sign ≡ sign.Name form }
+        requires { token.now.terminal ≡ terminal.Name form }
         ensures { Leaves (shown self.new) result
-            (in_body (shown self.old) token.now.spot (sign.Name form)) }
+            (in_body (shown self.old) token.now.spot (terminal.Name form)) }
     {
         if !self.may_name(form) {
             return Err(Stop::Broken(Breach::S1, token.at));
@@ -157,7 +157,7 @@ impl<'a> Parser<'a> {
     }
 
     fn at_ref_opening(&mut self, alloc: Global, token: &Token<'a>) -> Result<(), Stop>
-        requires { token.now.sign ≡ sign.Ref }
+        requires { token.now.terminal ≡ terminal.Ref }
         ensures { Leaves (shown self.new) result
             (at_opening (shown self.old) token.now.spot
             (stmt token.now.spot.at (Open (target_of token.now.spot.text)))) }
@@ -172,7 +172,7 @@ impl<'a> Parser<'a> {
         })
     }
 
-    /// A root or a node by reference: its opening, and its labels behind it.
+    /// A root or a node by reference: its opening, and its labels after it.
     fn enter(&mut self, opening: Stmt) -> Result<(), Stop>
         ensures { Leaves (shown self.new) result
             (Ok (record (shown self.old) {
@@ -226,7 +226,7 @@ impl<'a> Parser<'a> {
 
     fn at_version(&mut self, token: &Token<'a>) -> Result<(), Stop>
         ensures { Leaves (shown self.new) result
-            (in_body (shown self.old) token.now.spot sign.Version) }
+            (in_body (shown self.old) token.now.spot terminal.Version) }
     {
         if !(self.is_bare() && self.takes_version()) {
             return Err(Stop::Broken(Breach::S1, token.at));
@@ -238,7 +238,7 @@ impl<'a> Parser<'a> {
 
     fn at_plugin(&mut self, token: &Token<'a>) -> Result<(), Stop>
         ensures { Leaves (shown self.new) result
-            (in_body (shown self.old) token.now.spot sign.Plugin) }
+            (in_body (shown self.old) token.now.spot terminal.Plugin) }
     {
         if !(self.is_bare() && self.takes_top()) {
             return Err(Stop::Broken(Breach::S1, token.at));
@@ -250,7 +250,7 @@ impl<'a> Parser<'a> {
 
     fn at_reserve(&mut self, token: &Token<'a>) -> Result<(), Stop>
         ensures { Leaves (shown self.new) result
-            (in_body (shown self.old) token.now.spot sign.Reserve) }
+            (in_body (shown self.old) token.now.spot terminal.Reserve) }
     {
         if !(self.is_bare() && self.takes_top()) {
             return Err(Stop::Broken(Breach::S1, token.at));
@@ -277,7 +277,7 @@ impl<'a> Parser<'a> {
 
     fn at_prop_deletion(&mut self, token: &Token<'a>) -> Result<(), Stop>
         ensures { Leaves (shown self.new) result
-            (in_body (shown self.old) token.now.spot sign.DeleteProp) }
+            (in_body (shown self.old) token.now.spot terminal.DeleteProp) }
     {
         if !(self.is_bare() && self.takes_inner()) {
             return Err(Stop::Broken(Breach::S1, token.at));
@@ -289,12 +289,12 @@ impl<'a> Parser<'a> {
 
     /// Behind `/` or a reference.
     pub(crate) fn at_brace(&mut self, alloc: Global, token: &Token<'a>) -> Result<(), Stop>
-        requires { is_opening false token.now.sign ≡ true → (shown self.old).depth < 64 }
+        requires { is_opening false token.now.terminal ≡ true → (shown self.old).depth < 64 }
         ensures { Leaves (shown self.new) result
-            (at_brace (shown self.old) token.now.spot token.now.sign) }
+            (at_brace (shown self.old) token.now.spot token.now.terminal) }
     {
-        match token.sign {
-            Sign::LeftBrace => {
+        match token.terminal {
+            Terminal::LeftBrace => {
                 self.mode = Mode::Body;
                 self.stage = Stage::Rest;
                 self.depth += 1;
@@ -310,10 +310,10 @@ impl<'a> Parser<'a> {
     /// At the end of a statement.
     pub(crate) fn at_end(&mut self, token: &Token<'a>) -> Result<(), Stop>
         ensures { Leaves (shown self.new) result
-            (at_end (shown self.old) token.now.spot token.now.sign) }
+            (at_end (shown self.old) token.now.spot token.now.terminal) }
     {
-        match token.sign {
-            Sign::Semicolon => {
+        match token.terminal {
+            Terminal::Semicolon => {
                 self.mode = Mode::Body;
                 Ok(())
             }
@@ -338,22 +338,22 @@ impl<'a> Parser<'a> {
 
     /// Behind the name of a statement.
     pub(crate) fn named(&mut self, alloc: Global, form: Form, token: &Token<'a>) -> Result<(), Stop>
-        requires { is_opening false token.now.sign ≡ true → (shown self.old).depth < 64 }
+        requires { is_opening false token.now.terminal ≡ true → (shown self.old).depth < 64 }
         ensures { Leaves (shown self.new) result
-            (named form (shown self.old) token.now.spot token.now.sign) }
+            (named form (shown self.old) token.now.spot token.now.terminal) }
     {
-        match token.sign {
-            Sign::Colon => self.at_label(alloc, form, token),
-            Sign::Semicolon => self.at_flag(alloc, form, token),
-            Sign::Equal => self.at_equal(form, token),
-            Sign::LeftBrace => self.at_child(alloc, form, token),
+        match token.terminal {
+            Terminal::Colon => self.at_label(alloc, form, token),
+            Terminal::Semicolon => self.at_flag(alloc, form, token),
+            Terminal::Equal => self.at_equal(form, token),
+            Terminal::LeftBrace => self.at_child(alloc, form, token),
             _ => Err(Stop::Broken(Breach::S1, token.at)),
         }
     }
 
     fn at_label(&mut self, alloc: Global, form: Form, token: &Token<'a>) -> Result<(), Stop>
         ensures { Leaves (shown self.new) result
-            (named form (shown self.old) token.now.spot sign.Colon) }
+            (named form (shown self.old) token.now.spot terminal.Colon) }
     {
         let Some(name) = &self.name else {
             return Err(Stop::Broken(Breach::S1, token.at));
@@ -373,7 +373,7 @@ impl<'a> Parser<'a> {
 
     fn at_flag(&mut self, alloc: Global, form: Form, token: &Token<'a>) -> Result<(), Stop>
         ensures { Leaves (shown self.new) result
-            (named form (shown self.old) token.now.spot sign.Semicolon) }
+            (named form (shown self.old) token.now.spot terminal.Semicolon) }
     {
         let allowed = self.is_prop(form);
         let Some(name) = &self.name else {
@@ -396,7 +396,7 @@ impl<'a> Parser<'a> {
 
     fn at_equal(&mut self, form: Form, token: &Token<'a>) -> Result<(), Stop>
         ensures { Leaves (shown self.new) result
-            (named form (shown self.old) token.now.spot sign.Equal) }
+            (named form (shown self.old) token.now.spot terminal.Equal) }
     {
         if self.name.is_none() || !self.is_prop(form) {
             return Err(Stop::Broken(Breach::S1, token.at));
@@ -409,7 +409,7 @@ impl<'a> Parser<'a> {
     fn at_child(&mut self, alloc: Global, form: Form, token: &Token<'a>) -> Result<(), Stop>
         requires { (shown self.old).depth < 64 }
         ensures { Leaves (shown self.new) result
-            (named form (shown self.old) token.now.spot sign.LeftBrace) }
+            (named form (shown self.old) token.now.spot terminal.LeftBrace) }
     {
         let allowed = self.takes_inner() && is_node_form(form);
         let Some(name) = &self.name else {
@@ -444,21 +444,23 @@ impl<'a> Parser<'a> {
         token: &Token<'a>,
     ) -> Result<(), Stop>
         ensures { Leaves (shown self.new) result
-            (directive wanted (shown self.old) token.now.spot token.now.sign) }
+            (directive wanted (shown self.old) token.now.spot token.now.terminal) }
     {
-        match (wanted, token.sign) {
-            (Wanted::FirstNumber, Sign::Number(_) | Sign::Huge) => {
+        match (wanted, token.terminal) {
+            (Wanted::FirstNumber, Terminal::Number(_) | Terminal::Huge) => {
                 self.mode = Mode::Directive(Wanted::SecondNumber);
                 Ok(())
             }
-            (Wanted::SecondNumber, Sign::Number(_) | Sign::Huge) => {
+            (Wanted::SecondNumber, Terminal::Number(_) | Terminal::Huge) => {
                 self.complete();
                 Ok(())
             }
-            (Wanted::DeletedRef, Sign::Ref) => self.at_deleted_ref(alloc, token),
-            (Wanted::OmittedRef, Sign::Ref) => self.at_omitted_ref(alloc, token),
-            (Wanted::DeletedChild, Sign::Name(form)) => self.at_deleted_child(alloc, form, token),
-            (Wanted::DeletedProp, Sign::Name(form)) => self.at_deleted_prop(alloc, form, token),
+            (Wanted::DeletedRef, Terminal::Ref) => self.at_deleted_ref(alloc, token),
+            (Wanted::OmittedRef, Terminal::Ref) => self.at_omitted_ref(alloc, token),
+            (Wanted::DeletedChild, Terminal::Name(form)) => self.at_deleted_child(
+                alloc, form, token,
+            ),
+            (Wanted::DeletedProp, Terminal::Name(form)) => self.at_deleted_prop(alloc, form, token),
             _ => Err(Stop::Broken(Breach::S1, token.at)),
         }
     }
@@ -473,9 +475,9 @@ impl<'a> Parser<'a> {
     }
 
     fn at_deleted_ref(&mut self, alloc: Global, token: &Token<'a>) -> Result<(), Stop>
-        requires { token.now.sign ≡ sign.Ref }
+        requires { token.now.terminal ≡ terminal.Ref }
         ensures { Leaves (shown self.new) result
-            (directive wanted.DeletedRef (shown self.old) token.now.spot sign.Ref) }
+            (directive wanted.DeletedRef (shown self.old) token.now.spot terminal.Ref) }
     {
         let target = target_of(alloc, token)?;
         self.complete();
@@ -487,9 +489,9 @@ impl<'a> Parser<'a> {
     }
 
     fn at_omitted_ref(&mut self, alloc: Global, token: &Token<'a>) -> Result<(), Stop>
-        requires { token.now.sign ≡ sign.Ref }
+        requires { token.now.terminal ≡ terminal.Ref }
         ensures { Leaves (shown self.new) result
-            (directive wanted.OmittedRef (shown self.old) token.now.spot sign.Ref) }
+            (directive wanted.OmittedRef (shown self.old) token.now.spot terminal.Ref) }
     {
         let target = target_of(alloc, token)?;
         self.complete();
@@ -501,9 +503,9 @@ impl<'a> Parser<'a> {
     }
 
     fn at_deleted_child(&mut self, alloc: Global, form: Form, token: &Token<'a>) -> Result<(), Stop>
-        requires { token.now.sign ≡ sign.Name form }
+        requires { token.now.terminal ≡ terminal.Name form }
         ensures { Leaves (shown self.new) result
-            (directive wanted.DeletedChild (shown self.old) token.now.spot (sign.Name form)) }
+            (directive wanted.DeletedChild (shown self.old) token.now.spot (terminal.Name form)) }
     {
         if !is_node_form(form) {
             return Err(Stop::Broken(Breach::S1, token.at));
@@ -519,9 +521,9 @@ impl<'a> Parser<'a> {
     }
 
     fn at_deleted_prop(&mut self, alloc: Global, form: Form, token: &Token<'a>) -> Result<(), Stop>
-        requires { token.now.sign ≡ sign.Name form }
+        requires { token.now.terminal ≡ terminal.Name form }
         ensures { Leaves (shown self.new) result
-            (directive wanted.DeletedProp (shown self.old) token.now.spot (sign.Name form)) }
+            (directive wanted.DeletedProp (shown self.old) token.now.spot (terminal.Name form)) }
     {
         if !is_prop_form(form) {
             return Err(Stop::Broken(Breach::S1, token.at));

@@ -5,7 +5,7 @@ ghost use Rattle.std.specs.List.{list_all};
 ghost use Rattle.dts_parse.specs.Statements.{omits};
 ghost use Rattle.dts_parse.specs.Texts.{begins_path, target_of, within};
 ghost use Rattle.dts_parse.specs.Token.{is_ascii};
-ghost use Rattle.dts_parse.specs.declared.sign.Sign.TheVariants as sign;
+ghost use Rattle.dts_parse.specs.declared.terminal.Terminal.TheVariants as terminal;
 
 use crate::script::{Act, Stmt, Target};
 use crate::texts::within;
@@ -26,7 +26,7 @@ pub(crate) fn text_of(alloc: Global, bytes: &[u8]) -> Result<Text, AllocError>
 
 /// What a reference names.
 pub(crate) fn target_of(alloc: Global, token: &Token<'_>) -> Result<Target, AllocError>
-    requires { token.now.sign ≡ sign.Ref }
+    requires { token.now.terminal ≡ terminal.Ref }
     ensures { IfOk result (λ t. t ≡ target_of token.now.spot.text) }
 {
     named_target(alloc, token.text)
@@ -57,7 +57,7 @@ fn begins_path(text: &[u8]) -> bool
     }
 }
 
-/// The marks on a child, as statements behind its end.
+/// The marks on a child, as statements after its end.
 pub(crate) fn omits(alloc: Global, marks: &[u64], name: &[u8]) -> Result<Vec<Stmt>, AllocError>
     requires { list_all is_ascii name.now ≡ true }
     ensures { IfOk result (λ v. v.items ≡ omits marks.now name.now) }

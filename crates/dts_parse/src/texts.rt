@@ -117,7 +117,7 @@ fn letter(byte: u8) -> u8
     }
 }
 
-/// How many bytes an escape has behind its backslash.
+/// How many bytes an escape has after its backslash.
 fn escape_size(rest: &[u8]) -> usize
     ensures size { result ≡ escape rest.now }
     ensures within { result ≤ length rest.now }

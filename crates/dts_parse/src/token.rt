@@ -1,14 +1,14 @@
-//! Tokens of a source with their signs.
+//! Tokens of a source with their terminals.
 
 ghost use Rattle.std.specs.Prelude.{◌≡◌, ◌≤◌, ◌<◌, true, length, codes};
 ghost use Rattle.std.specs.List.{list_all};
-ghost use Rattle.dts_parse.specs.Source.{byte_sign, directive_sign, double_sign, name_sign, punct_sign, ref_sign, sign_of, slice_of, token_of};
+ghost use Rattle.dts_parse.specs.Source.{byte_terminal, directive_terminal, double_terminal, name_terminal, punct_terminal, ref_terminal, terminal_of, slice_of, token_of};
 ghost use Rattle.dts_parse.specs.Token.{form_of, is_ascii};
 
 use crate::expr::BinOp;
 use crate::names::{all_ascii, form_of};
 use crate::numbers::number;
-use crate::sign::{Form, Sign};
+use crate::terminal::{Form, Terminal};
 use crate::texts::{char_worth, pair_worth};
 use dts_lex::{Span, SpanKind};
 use std::marker::Model;
@@ -16,7 +16,7 @@ use std::marker::Model;
 /// A token of a source.
 #[derive(Drop)]
 pub(crate) struct Token<'a> {
-    pub(crate) sign: Sign,
+    pub(crate) terminal: Terminal,
     /// Its first byte.
     pub(crate) at: u64,
     /// Its bytes.
@@ -25,13 +25,13 @@ pub(crate) struct Token<'a> {
 
 impl<'a> Model for Token<'a> {
     ghost use Rattle.dts_parse.specs.Token as spec;
-    ghost use Rattle.dts_parse.specs.Inner.Signed.{IsSigned};
+    ghost use Rattle.dts_parse.specs.Inner.Spelled.{IsSpelled};
 
     ghost Value = { spec.Token };
 
-    ghost view = { λ t. record { sign = t.sign; spot = record { at = t.at; text = t.text.now } } };
+    ghost view = { λ t. record { terminal = t.terminal; spot = record { at = t.at; text = t.text.now } } };
 
-    ghost invariant = { λ t. IsSigned t.sign t.text.now };
+    ghost invariant = { λ t. IsSpelled t.terminal t.text.now };
 }
 
 impl<'a> Token<'a> {
@@ -43,124 +43,124 @@ impl<'a> Token<'a> {
     {
         let text = &src[span.start as usize..span.end as usize];
         Token {
-            sign: sign_of(span.kind, text),
+            terminal: terminal_of(span.kind, text),
             at: span.start,
             text,
         }
     }
 }
 
-pub(crate) fn sign_of(kind: SpanKind, text: &[u8]) -> Sign
-    ensures { result ≡ sign_of kind text.now }
+pub(crate) fn terminal_of(kind: SpanKind, text: &[u8]) -> Terminal
+    ensures { result ≡ terminal_of kind text.now }
 {
     match kind {
-        SpanKind::Name => name_sign(text),
+        SpanKind::Name => name_terminal(text),
         SpanKind::Number => number(text),
-        SpanKind::Char => Sign::Char(char_worth(text)),
-        SpanKind::Str => Sign::Str,
-        SpanKind::Ref | SpanKind::PathRef => ref_sign(text),
-        SpanKind::Directive => directive_sign(text),
-        SpanKind::Punct => punct_sign(text),
-        SpanKind::HexPair => Sign::Pair(pair_worth(text)),
+        SpanKind::Char => Terminal::Char(char_worth(text)),
+        SpanKind::Str => Terminal::Str,
+        SpanKind::Ref | SpanKind::PathRef => ref_terminal(text),
+        SpanKind::Directive => directive_terminal(text),
+        SpanKind::Punct => punct_terminal(text),
+        SpanKind::HexPair => Terminal::Pair(pair_worth(text)),
     }
 }
 
-fn name_sign(text: &[u8]) -> Sign
-    ensures { result ≡ name_sign (form_of text.now) }
+fn name_terminal(text: &[u8]) -> Terminal
+    ensures { result ≡ name_terminal (form_of text.now) }
 {
     match form_of(text) {
-        None => Sign::Other,
-        Some(form) => Sign::Name(form),
+        None => Terminal::Other,
+        Some(form) => Terminal::Name(form),
     }
 }
 
-fn ref_sign(text: &[u8]) -> Sign
-    ensures { result ≡ ref_sign text.now }
+fn ref_terminal(text: &[u8]) -> Terminal
+    ensures { result ≡ ref_terminal text.now }
 {
     if all_ascii(text) {
-        Sign::Ref
+        Terminal::Ref
     } else {
-        Sign::Other
+        Terminal::Other
     }
 }
 
-fn directive_sign(text: &[u8]) -> Sign
-    ensures { result ≡ directive_sign text.now }
+fn directive_terminal(text: &[u8]) -> Terminal
+    ensures { result ≡ directive_terminal text.now }
 {
     if text == b"/dts-v1/".as_slice() {
-        Sign::Version
+        Terminal::Version
     } else if text == b"/plugin/".as_slice() {
-        Sign::Plugin
+        Terminal::Plugin
     } else if text == b"/memreserve/".as_slice() {
-        Sign::Reserve
+        Terminal::Reserve
     } else if text == b"/delete-node/".as_slice() {
-        Sign::DeleteNode
+        Terminal::DeleteNode
     } else if text == b"/delete-property/".as_slice() {
-        Sign::DeleteProp
+        Terminal::DeleteProp
     } else if text == b"/omit-if-no-ref/".as_slice() {
-        Sign::Omit
+        Terminal::Omit
     } else if text == b"/bits/".as_slice() {
-        Sign::Bits
+        Terminal::Bits
     } else {
-        Sign::Include
+        Terminal::Include
     }
 }
 
-fn punct_sign(text: &[u8]) -> Sign
-    ensures { result ≡ punct_sign text.now }
+fn punct_terminal(text: &[u8]) -> Terminal
+    ensures { result ≡ punct_terminal text.now }
 {
     match text {
-        [byte] => byte_sign(*byte),
-        [first, second] => double_sign(*first, *second),
-        _ => Sign::Other,
+        [byte] => byte_terminal(*byte),
+        [first, second] => double_terminal(*first, *second),
+        _ => Terminal::Other,
     }
 }
 
-/// A sign of one byte.
-fn byte_sign(byte: u8) -> Sign
-    ensures { result ≡ byte_sign byte }
+/// A terminal of one byte.
+fn byte_terminal(byte: u8) -> Terminal
+    ensures { result ≡ byte_terminal byte }
 {
     match byte {
-        b'{' => Sign::LeftBrace,
-        b'}' => Sign::RightBrace,
-        b'[' => Sign::LeftSquare,
-        b']' => Sign::RightSquare,
-        b'(' => Sign::LeftRound,
-        b')' => Sign::RightRound,
-        b'<' => Sign::Less,
-        b'>' => Sign::Greater,
-        b'/' => Sign::Slash,
-        b':' => Sign::Colon,
-        b';' => Sign::Semicolon,
-        b'=' => Sign::Equal,
-        b',' => Sign::Comma,
-        b'-' => Sign::Minus,
-        b'~' => Sign::Tilde,
-        b'!' => Sign::Bang,
-        b'?' => Sign::Question,
-        b'*' => Sign::Op(BinOp::Mul),
-        b'%' => Sign::Op(BinOp::Rem),
-        b'+' => Sign::Op(BinOp::Add),
-        b'&' => Sign::Op(BinOp::BitAnd),
-        b'^' => Sign::Op(BinOp::BitXor),
-        b'|' => Sign::Op(BinOp::BitOr),
-        _ => Sign::Other,
+        b'{' => Terminal::LeftBrace,
+        b'}' => Terminal::RightBrace,
+        b'[' => Terminal::LeftSquare,
+        b']' => Terminal::RightSquare,
+        b'(' => Terminal::LeftRound,
+        b')' => Terminal::RightRound,
+        b'<' => Terminal::Less,
+        b'>' => Terminal::Greater,
+        b'/' => Terminal::Slash,
+        b':' => Terminal::Colon,
+        b';' => Terminal::Semicolon,
+        b'=' => Terminal::Equal,
+        b',' => Terminal::Comma,
+        b'-' => Terminal::Minus,
+        b'~' => Terminal::Tilde,
+        b'!' => Terminal::Bang,
+        b'?' => Terminal::Question,
+        b'*' => Terminal::Op(BinOp::Mul),
+        b'%' => Terminal::Op(BinOp::Rem),
+        b'+' => Terminal::Op(BinOp::Add),
+        b'&' => Terminal::Op(BinOp::BitAnd),
+        b'^' => Terminal::Op(BinOp::BitXor),
+        b'|' => Terminal::Op(BinOp::BitOr),
+        _ => Terminal::Other,
     }
 }
 
 /// An operator of two bytes.
-fn double_sign(first: u8, second: u8) -> Sign
-    ensures { result ≡ double_sign first second }
+fn double_terminal(first: u8, second: u8) -> Terminal
+    ensures { result ≡ double_terminal first second }
 {
     if second == b'=' {
-        Sign::Op(match first {
+        Terminal::Op(match first {
             b'<' => BinOp::Le,
             b'>' => BinOp::Ge,
             b'=' => BinOp::Eq,
             _ => BinOp::Ne,
         })
     } else {
-        Sign::Op(match first {
+        Terminal::Op(match first {
             b'<' => BinOp::Shl,
             b'>' => BinOp::Shr,
             b'&' => BinOp::And,

@@ -11,14 +11,14 @@ ghost use Rattle.dts_parse.specs.Values.{bytes_with, cells_with, list_data, may_
 ghost use Rattle.edt_base.specs.declared.node.Kind.TheVariants as kind;
 ghost use Rattle.dts_parse.specs.declared.mode.Listing.TheVariants as listing;
 ghost use Rattle.dts_parse.specs.declared.mode.Mode.TheVariants as mode;
-ghost use Rattle.dts_parse.specs.declared.sign.Sign.TheVariants as sign;
+ghost use Rattle.dts_parse.specs.declared.terminal.Terminal.TheVariants as terminal;
 
 use crate::mode::{Breach, Listing, Mode, Stage};
 use crate::parser::Parser;
 use crate::script::{Act, RawCell, RawPart, Stmt};
-use crate::sign::{Form, Sign, Width};
 use crate::stop::Stop;
 use crate::targets::{target_of, text_of};
+use crate::terminal::{Form, Terminal, Width};
 use crate::texts::text_bytes;
 use crate::token::Token;
 use edt_base::{Bytes, Kind, Part};
@@ -136,27 +136,27 @@ fn push_cell(cells: &mut Vec<RawCell>, width: Width, n: u64) -> Result<(), Alloc
 impl<'a> Parser<'a> {
     /// Where a part of a value may begin.
     pub(crate) fn in_value(&mut self, alloc: Global, token: &Token<'a>) -> Result<(), Stop>
-        requires { is_opening false token.now.sign ≡ true → (shown self.old).depth < 64 }
+        requires { is_opening false token.now.terminal ≡ true → (shown self.old).depth < 64 }
         ensures { Leaves (shown self.new) result
-            (in_value (shown self.old) token.now.spot token.now.sign) }
+            (in_value (shown self.old) token.now.spot token.now.terminal) }
     {
-        match token.sign {
-            Sign::Str => self.at_text(alloc, token),
-            Sign::Ref => self.at_path(alloc, token),
-            Sign::Less => self.at_list(Width::Bits32),
-            Sign::LeftSquare => self.at_pairs(),
-            Sign::Bits => {
+        match token.terminal {
+            Terminal::Str => self.at_text(alloc, token),
+            Terminal::Ref => self.at_path(alloc, token),
+            Terminal::Less => self.at_list(Width::Bits32),
+            Terminal::LeftSquare => self.at_pairs(),
+            Terminal::Bits => {
                 self.mode = Mode::Bits;
                 Ok(())
             }
-            Sign::Name(form) => self.waits_colon(form, token),
+            Terminal::Name(form) => self.waits_colon(form, token),
             _ => Err(Stop::Broken(Breach::S1, token.at)),
         }
     }
 
     fn at_text(&mut self, alloc: Global, token: &Token<'a>) -> Result<(), Stop>
         ensures { Leaves (shown self.new) result
-            (in_value (shown self.old) token.now.spot sign.Str) }
+            (in_value (shown self.old) token.now.spot terminal.Str) }
     {
         let bytes = text_bytes(alloc, token.text)?;
         self.with_part(RawPart::Plain(Part {
@@ -166,9 +166,9 @@ impl<'a> Parser<'a> {
     }
 
     fn at_path(&mut self, alloc: Global, token: &Token<'a>) -> Result<(), Stop>
-        requires { token.now.sign ≡ sign.Ref }
+        requires { token.now.terminal ≡ terminal.Ref }
         ensures { Leaves (shown self.new) result
-            (in_value (shown self.old) token.now.spot sign.Ref) }
+            (in_value (shown self.old) token.now.spot terminal.Ref) }
     {
         let target = target_of(alloc, token)?;
         self.with_part(RawPart::Path(target))
@@ -220,10 +220,10 @@ impl<'a> Parser<'a> {
     /// Behind a label's name in a value.
     pub(crate) fn at_colon(&mut self, token: &Token<'a>) -> Result<(), Stop>
         ensures { Leaves (shown self.new) result
-            (at_colon (shown self.old) token.now.spot token.now.sign) }
+            (at_colon (shown self.old) token.now.spot token.now.terminal) }
     {
-        match token.sign {
-            Sign::Colon => {
+        match token.terminal {
+            Terminal::Colon => {
                 self.colon = false;
                 self.mode = labelled(self.mode);
                 Ok(())
@@ -235,15 +235,15 @@ impl<'a> Parser<'a> {
     /// Behind a part of a value.
     pub(crate) fn behind_part(&mut self, alloc: Global, token: &Token<'a>) -> Result<(), Stop>
         ensures { Leaves (shown self.new) result
-            (behind_part (shown self.old) token.now.spot token.now.sign) }
+            (behind_part (shown self.old) token.now.spot token.now.terminal) }
     {
-        match token.sign {
-            Sign::Comma => {
+        match token.terminal {
+            Terminal::Comma => {
                 self.mode = Mode::Value;
                 Ok(())
             }
-            Sign::Semicolon => self.assigned(alloc, token),
-            Sign::Name(form) => self.waits_colon(form, token),
+            Terminal::Semicolon => self.assigned(alloc, token),
+            Terminal::Name(form) => self.waits_colon(form, token),
             _ => Err(Stop::Broken(Breach::S1, token.at)),
         }
     }
@@ -270,10 +270,10 @@ impl<'a> Parser<'a> {
     /// Behind `/bits/`.
     pub(crate) fn behind_bits(&mut self, token: &Token<'a>) -> Result<(), Stop>
         ensures { Leaves (shown self.new) result
-            (behind_bits (shown self.old) token.now.spot token.now.sign) }
+            (behind_bits (shown self.old) token.now.spot token.now.terminal) }
     {
-        match token.sign {
-            Sign::Number(n) => self.at_width(n, token),
+        match token.terminal {
+            Terminal::Number(n) => self.at_width(n, token),
             _ => Err(Stop::Broken(Breach::S1, token.at)),
         }
     }
@@ -293,12 +293,12 @@ impl<'a> Parser<'a> {
 
     /// Behind the number of `/bits/`.
     pub(crate) fn behind_width(&mut self, width: Width, token: &Token<'a>) -> Result<(), Stop>
-        requires { is_opening false token.now.sign ≡ true → (shown self.old).depth < 64 }
+        requires { is_opening false token.now.terminal ≡ true → (shown self.old).depth < 64 }
         ensures { Leaves (shown self.new) result
-            (behind_width width (shown self.old) token.now.spot token.now.sign) }
+            (behind_width width (shown self.old) token.now.spot token.now.terminal) }
     {
-        match token.sign {
-            Sign::Less => self.at_list(width),
+        match token.terminal {
+            Terminal::Less => self.at_list(width),
             _ => Err(Stop::Broken(Breach::S1, token.at)),
         }
     }
@@ -326,7 +326,7 @@ impl<'a> Parser<'a> {
     }
 
     fn at_cell_ref(&mut self, alloc: Global, width: Width, token: &Token<'a>) -> Result<(), Stop>
-        requires { token.now.sign ≡ sign.Ref }
+        requires { token.now.terminal ≡ terminal.Ref }
         ensures { Leaves (shown self.new) result (at_ref width (shown self.old) token.now.spot) }
     {
         match width {
@@ -369,18 +369,18 @@ impl<'a> Parser<'a> {
         listing: Listing,
         token: &Token<'a>,
     ) -> Result<(), Stop>
-        requires { is_opening false token.now.sign ≡ true → (shown self.old).depth < 64 }
+        requires { is_opening false token.now.terminal ≡ true → (shown self.old).depth < 64 }
         ensures { Leaves (shown self.new) result
-            (in_cells width listing (shown self.old) token.now.spot token.now.sign) }
+            (in_cells width listing (shown self.old) token.now.spot token.now.terminal) }
     {
-        match token.sign {
-            Sign::Number(n) => self.put(width, false, Some(n), token.at),
-            Sign::Huge => self.put(width, true, None, token.at),
-            Sign::Char(byte) => self.put(width, false, Some(u64::from(byte)), token.at),
-            Sign::LeftRound => self.at_group(width, token),
-            Sign::Ref => self.at_cell_ref(alloc, width, token),
-            Sign::Greater => self.closed_list(alloc, width, listing, token),
-            Sign::Name(form) => self.waits_colon(form, token),
+        match token.terminal {
+            Terminal::Number(n) => self.put(width, false, Some(n), token.at),
+            Terminal::Huge => self.put(width, true, None, token.at),
+            Terminal::Char(byte) => self.put(width, false, Some(u64::from(byte)), token.at),
+            Terminal::LeftRound => self.at_group(width, token),
+            Terminal::Ref => self.at_cell_ref(alloc, width, token),
+            Terminal::Greater => self.closed_list(alloc, width, listing, token),
+            Terminal::Name(form) => self.waits_colon(form, token),
             _ => Err(Stop::Broken(Breach::S1, token.at)),
         }
     }
@@ -433,12 +433,12 @@ impl<'a> Parser<'a> {
         token: &Token<'a>,
     ) -> Result<(), Stop>
         ensures { Leaves (shown self.new) result
-            (in_pairs listing (shown self.old) token.now.spot token.now.sign) }
+            (in_pairs listing (shown self.old) token.now.spot token.now.terminal) }
     {
-        match token.sign {
-            Sign::Pair(byte) => self.at_pair(byte),
-            Sign::RightSquare => self.closed_pairs(alloc, listing, token),
-            Sign::Name(form) => self.waits_colon(form, token),
+        match token.terminal {
+            Terminal::Pair(byte) => self.at_pair(byte),
+            Terminal::RightSquare => self.closed_pairs(alloc, listing, token),
+            Terminal::Name(form) => self.waits_colon(form, token),
             _ => Err(Stop::Broken(Breach::S1, token.at)),
         }
     }

@@ -124,6 +124,9 @@ tilde = 126
 abbrev pub digit_0 : ℕ
 digit_0 = 48
 
+abbrev pub digit_3 : ℕ
+digit_3 = 51
+
 abbrev pub digit_7 : ℕ
 digit_7 = 55
 
@@ -136,14 +139,47 @@ upper_a = 65
 abbrev pub upper_f : ℕ
 upper_f = 70
 
+abbrev pub upper_l : ℕ
+upper_l = 76
+
+abbrev pub upper_u : ℕ
+upper_u = 85
+
 abbrev pub upper_z : ℕ
 upper_z = 90
 
 abbrev pub lower_a : ℕ
 lower_a = 97
 
+abbrev pub lower_b : ℕ
+lower_b = 98
+
+abbrev pub lower_e : ℕ
+lower_e = 101
+
 abbrev pub lower_f : ℕ
 lower_f = 102
+
+abbrev pub lower_l : ℕ
+lower_l = 108
+
+abbrev pub lower_n : ℕ
+lower_n = 110
+
+abbrev pub lower_r : ℕ
+lower_r = 114
+
+abbrev pub lower_t : ℕ
+lower_t = 116
+
+abbrev pub lower_u : ℕ
+lower_u = 117
+
+abbrev pub lower_v : ℕ
+lower_v = 118
+
+abbrev pub lower_x : ℕ
+lower_x = 120
 
 abbrev pub lower_z : ℕ
 lower_z = 122

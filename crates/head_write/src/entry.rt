@@ -74,7 +74,7 @@ fn split<'a>(place: u64, doubles: &'a [u64]) -> (bool, &'a [u64])
     }
 }
 
-// The place behind this one, with the doubles that can still be met: none behind the greatest
+// The place after this one, with the doubles that can still be met: none after the greatest
 // number.
 fn step<'a>(place: u64, doubles: &'a [u64]) -> (u64, &'a [u64])
     ensures { (facts : List FactData) →

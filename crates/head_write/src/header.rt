@@ -4,11 +4,10 @@ ghost use Rattle.std.specs.Prelude.{is_ok};
 ghost use Rattle.edt_base.specs.Outside.{Wrote};
 ghost use Rattle.head_write.specs.Header.{header_text, line};
 
-use crate::block::{Block, flush};
 use crate::entry::Entries;
 use crate::line::{put_entry, put_line};
 use dt_names::Fact;
-use edt_base::{Bound, Sink, WriteFailed};
+use edt_base::{Block, Bound, Sink, WriteFailed, flush};
 
 #[tactic(auto, unfolding(crate::specs::Header::header_text))]
 /// Writes the header of a bound tree, as `header_text` in `specs/Header.antt` has it: a line for
@@ -26,7 +25,7 @@ pub fn emit<S: Sink>(bound: &Bound, out: &mut S) -> Result<(), WriteFailed>
     flush(out, &mut block)
 }
 
-/// Writes the line of a definition: `#define`, its name and its parameters, and its body behind a
+/// Writes the line of a definition: `#define`, its name and its parameters, and its body after a
 /// space where that isn't empty. With `WriteFailed`, which comes only where the sink's count of
 /// faults rose, a front of it was written. Takes no memory.
 pub fn emit_fact<S: Sink>(fact: &Fact<'_>, out: &mut S) -> Result<(), WriteFailed>

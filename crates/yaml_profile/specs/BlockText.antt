@@ -1,6 +1,7 @@
 -- A block scalar: the text of the lines after `|` or `>`.
 use Rattle.std.specs.Prelude.{ℕ, zero, suc, ◌-◌, Bool, true, false, not, ◌&&◌, ◌==◌, List, [], ◌∷◌, ◌++◌, Option, Some, None, if◌then◌else◌}
 use Rattle.std.specs.Char.{encode_utf8}
+use Rattle.edt_base.specs.Ascii.{newline, space}
 use Rattle.yaml_profile.specs.declared.block_text.Chomp.{Chomp}
 use Rattle.yaml_profile.specs.declared.block_text.Chomp.TheVariants.{Strip, Clip, Keep}
 
@@ -34,21 +35,21 @@ no_lines folded = record {
 }
 
 abbrev pub feeds_or_space : List ℕ → List ℕ
-feeds_or_space [] = 32 ∷ []
+feeds_or_space [] = space ∷ []
 feeds_or_space (f ∷ fs) = f ∷ fs
 
 -- what stands between the last line and one that begins with a space or doesn't: a line end folds where neither begins
 -- with one
 abbrev pub line_joint : BlockText → Bool → List ℕ
 line_joint b spaced = if not b.begun then b.feeds else if b.folded && not b.spaced && not spaced
-    then feeds_or_space b.feeds else 10 ∷ b.feeds
+    then feeds_or_space b.feeds else newline ∷ b.feeds
 
 -- a line of text begins with this character
 abbrev pub begin_line : BlockText → ℕ → BlockText
 begin_line b c = record b {
-  text = b.text ++ line_joint b (c == 32) ++ encode_utf8 c;
+  text = b.text ++ line_joint b (c == space) ++ encode_utf8 c;
   begun = true;
-  spaced = c == 32;
+  spaced = c == space;
   feeds = [];
 }
 
@@ -58,7 +59,7 @@ go_on b c = record b { text = b.text ++ encode_utf8 c }
 
 -- an empty line
 abbrev pub empty_line : BlockText → BlockText
-empty_line b = record b { feeds = b.feeds ++ 10 ∷ [] }
+empty_line b = record b { feeds = b.feeds ++ newline ∷ [] }
 
 -- so many spaces more on the line
 abbrev pub more_spaces : BlockText → ℕ → BlockText
@@ -86,13 +87,13 @@ blank_line b spaces = elim b.indent [ None ↦ record b { leading = b.leading ++
 -- a line feed for each of the blank lines
 abbrev pub feed_each : List ℕ → List ℕ
 feed_each [] = []
-feed_each (s ∷ ss) = 10 ∷ feed_each ss
+feed_each (s ∷ ss) = newline ∷ feed_each ss
 
 -- the value: of the line ends after its text one stays, none or all. Without text it has only blank lines
 abbrev pub end_of : Chomp → Bool → List ℕ → List ℕ
 end_of Strip begun feeds = []
-end_of Clip begun feeds = if begun then 10 ∷ [] else []
-end_of Keep begun feeds = if begun then 10 ∷ feeds else feeds
+end_of Clip begun feeds = if begun then newline ∷ [] else []
+end_of Keep begun feeds = if begun then newline ∷ feeds else feeds
 
 unfoldable pub block_text : BlockText → List ℕ
 block_text b = b.text ++ end_of b.chomp b.begun (feed_each b.leading ++ b.feeds)

@@ -1,6 +1,7 @@
 -- A text over several lines, as plain and quoted texts fold.
 use Rattle.std.specs.Prelude.{ℕ, List, [], ◌∷◌, ◌++◌}
 use Rattle.std.specs.Char.{encode_utf8}
+use Rattle.edt_base.specs.Ascii.{newline, space}
 use Rattle.yaml_profile.specs.declared.folding.Seam.{Seam}
 use Rattle.yaml_profile.specs.declared.folding.Seam.TheVariants.{Inside, Folds, Joins}
 
@@ -17,7 +18,7 @@ nothing_yet = record { text = []; blanks = []; seam = Inside; feeds = [] }
 -- a line end folds to one space and k blank lines to k line feeds; after a backslash there is no space
 abbrev pub joint : Seam → List ℕ → List ℕ
 joint Inside feeds = []
-joint Folds [] = 32 ∷ []
+joint Folds [] = space ∷ []
 joint Folds (f ∷ fs) = f ∷ fs
 joint Joins feeds = feeds
 
@@ -39,7 +40,7 @@ put_blank t c = after_blank t.seam t c
 
 abbrev pub after_line : Seam → Folding → Folding
 after_line Inside t = record { text = t.text; blanks = []; seam = Folds; feeds = [] }
-after_line _ t = record { text = t.text; blanks = []; seam = t.seam; feeds = t.feeds ++ 10 ∷ [] }
+after_line _ t = record { text = t.text; blanks = []; seam = t.seam; feeds = t.feeds ++ newline ∷ [] }
 
 -- the line ends: the blanks before it are no part of the text
 abbrev pub end_line : Folding → Folding

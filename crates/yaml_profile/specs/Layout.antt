@@ -1,5 +1,6 @@
 -- What a front takes in at the starts of lines: which open blocks end there, and the lines of block scalars.
 use Rattle.std.specs.Prelude.{ℕ, ◌+◌, ◌-◌, Bool, true, false, ◌&&◌, ◌||◌, not, ◌==◌, nat_lt, nat_le, List, [], ◌∷◌, ◌++◌, Some, None, Result, Ok, if◌then◌else◌}
+use Rattle.edt_base.specs.Ascii.{carriage_return, hash, hyphen, newline, plus, right_bracket, space, tab}
 use Rattle.edt_base.specs.YamlData.{Value, a_text, null}
 use Rattle.yaml_profile.specs.declared.stop.Broken.{Broken}
 use Rattle.yaml_profile.specs.declared.front.Role.TheVariants.{Value as ValueOnly, Either, Key as KeyOnly}
@@ -16,14 +17,14 @@ use Rattle.yaml_profile.specs.Pieces.{open_list, end_flow, after_item, begin_val
 
 -- a dash of a list: a space or line end follows
 abbrev pub is_dash : (c : ℕ) → (rest : List ℕ) → Bool
-is_dash c rest = (c == 45) && ends_word rest
+is_dash c rest = (c == hyphen) && ends_word rest
 
 -- an item of the list at this column, if a dash and a space or line end stand there
 unfoldable pub next_item : List Frame → (column : ℕ) → List Value → (start at c : ℕ) → (rest : List ℕ)
     → Result Front Broken
 next_item frames column items start at c rest =
     if is_dash c rest then Ok (front (InList column items ∷ frames) (AtValue start true false))
-    else if c == 45 then no_text (behind at rest)
+    else if c == hyphen then no_text (behind at rest)
     else no_text (place_of at c)
 
 -- the innermost block ends where something begins at this column: it is of a deeper column, or a list at the column of
@@ -93,11 +94,12 @@ flow_line frames (Going t) start at c rest =
     if is_deeper (at - start) frames then in_plain frames t ValueOnly at false at c rest
     else after_item frames (scalar_of t.text) at c
 flow_line frames (Whole v) start at c rest = after_item frames v at c
-flow_line frames _ start at c rest = if c == 93 then end_flow frames at else begin_value frames ValueOnly at c rest
+flow_line frames _ start at c rest = if c == right_bracket then end_flow frames at
+    else begin_value frames ValueOnly at c rest
 
 -- `---` may stand once, before all else; `...` and another `---` are left out
 abbrev pub mark_line : List Frame → Waiting → (at c : ℕ) → Result Front Broken
-mark_line frames waiting at c = if is_fresh waiting && (c == 45) then Ok (front frames (InMark 2)) else left_out at
+mark_line frames waiting at c = if is_fresh waiting && (c == hyphen) then Ok (front frames (InMark 2)) else left_out at
 
 -- the first character of a line that is no space
 unfoldable pub line_content : List Frame → Waiting → (start at c : ℕ) → (rest : List ℕ) → Result Front Broken
@@ -114,14 +116,14 @@ begin_comment frames waiting = Ok (front frames (InComment (ended waiting)))
 
 unfoldable pub in_line : List Frame → Waiting → (start at c : ℕ) → (rest : List ℕ) → Result Front Broken
 in_line frames waiting start at c rest =
-    if c == 32 then Ok (front frames (AtLine start waiting))
-    else if c == 10 then blank_line frames waiting at
-    else if c == 9 then no_text at
-    else if c == 35 then begin_comment frames waiting
+    if c == space then Ok (front frames (AtLine start waiting))
+    else if c == newline then blank_line frames waiting at
+    else if c == tab then no_text at
+    else if c == hash then begin_comment frames waiting
     else line_content frames waiting start at c rest
 
 unfoldable pub in_comment : List Frame → Waiting → (at c : ℕ) → Result Front Broken
-in_comment frames waiting at c = if c == 10 then Ok (front frames (AtLine (at + 1) waiting))
+in_comment frames waiting at c = if c == newline then Ok (front frames (AtLine (at + 1) waiting))
     else Ok (front frames (InComment waiting))
 
 unfoldable pub in_mark : List Frame → (left : ℕ) → Result Front Broken
@@ -131,21 +133,21 @@ in_mark frames left = if nat_le left 1 then Ok (front frames (AfterValue Nothing
 -- ---- block scalars
 
 abbrev pub with_chomp : BlockText → ℕ → BlockText
-with_chomp b c = if c == 43 then record b { chomp = Keep } else record b { chomp = Strip }
+with_chomp b c = if c == plus then record b { chomp = Keep } else record b { chomp = Strip }
 
 -- after `|` or `>`: an indicator, then spaces and a comment; a digit is left out
 unfoldable pub in_header : List Frame → BlockText → (signed spaced : Bool) → (at c : ℕ) → Result Front Broken
 in_header frames b signed spaced at c =
-    if c == 32 then Ok (front frames (InHeader b signed true))
-    else if c == 10 then Ok (front frames (AtTextLine (at + 1) b))
-    else if (c == 35) && spaced then Ok (front frames (InHeaderComment b))
+    if c == space then Ok (front frames (InHeader b signed true))
+    else if c == newline then Ok (front frames (AtTextLine (at + 1) b))
+    else if (c == hash) && spaced then Ok (front frames (InHeaderComment b))
     else if is_digit c && not spaced then left_out at
-    else if ((c == 43) || (c == 45)) && not spaced && not signed
+    else if ((c == plus) || (c == hyphen)) && not spaced && not signed
     then Ok (front frames (InHeader (with_chomp b c) true false))
     else no_text (place_of at c)
 
 unfoldable pub in_header_comment : List Frame → BlockText → (at c : ℕ) → Result Front Broken
-in_header_comment frames b at c = if c == 10 then Ok (front frames (AtTextLine (at + 1) b))
+in_header_comment frames b at c = if c == newline then Ok (front frames (AtTextLine (at + 1) b))
     else Ok (front frames (InHeaderComment b))
 
 -- the line is one of text: it has the text's indentation, or is the first and deeper than the block around the scalar.
@@ -164,7 +166,7 @@ is_indented b column = elim b.indent [ None ↦ false | Some i ↦ nat_le i colu
 
 -- a carriage return that ends a line is no part of it
 abbrev pub ends_blank_line : (c : ℕ) → (rest : List ℕ) → Bool
-ends_blank_line c rest = (c == 13) && begins_with 10 rest
+ends_blank_line c rest = (c == carriage_return) && begins_with newline rest
 
 -- a line ends that has only so many spaces
 abbrev pub end_blank : List Frame → (spaces : ℕ) → BlockText → (at : ℕ) → Result Front Broken
@@ -176,9 +178,9 @@ end_block frames b start at c rest = in_line frames (Whole (a_text (block_text b
 
 unfoldable pub at_text_line : List Frame → BlockText → (start at c : ℕ) → (rest : List ℕ) → Result Front Broken
 at_text_line frames b start at c rest =
-    if c == 10 then end_blank frames (at - start) b at
+    if c == newline then end_blank frames (at - start) b at
     else if ends_blank_line c rest then Ok (front frames (AtBlankEnd (at - start) b))
-    else if (c == 32) && not (is_indented b (at - start)) then Ok (front frames (AtTextLine start b))
+    else if (c == space) && not (is_indented b (at - start)) then Ok (front frames (AtTextLine start b))
     else if is_text_line frames b (at - start) && not (((at - start) == 0) && begins_mark c rest)
     then begin_text frames b (at - start) c
     else end_block frames b start at c rest
@@ -187,5 +189,5 @@ unfoldable pub at_blank_end : List Frame → (spaces : ℕ) → BlockText → (a
 at_blank_end frames spaces b at = end_blank frames spaces b at
 
 unfoldable pub in_text_line : List Frame → BlockText → (at c : ℕ) → Result Front Broken
-in_text_line frames b at c = if c == 10 then Ok (front frames (AtTextLine (at + 1) b))
+in_text_line frames b at c = if c == newline then Ok (front frames (AtTextLine (at + 1) b))
     else Ok (front frames (InTextLine (go_on b c)))

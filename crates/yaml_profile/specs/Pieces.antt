@@ -2,6 +2,7 @@
 use Rattle.std.specs.Prelude.{ℕ, ◌+◌, ◌-◌, ◌*◌, ◌%◌, Bool, true, false, ◌&&◌, ◌||◌, not, ◌==◌, nat_lt, nat_le, List, [], ◌∷◌, ◌++◌, codes, Result, Ok, if◌then◌else◌}
 use Rattle.std.specs.List.{list_any}
 use Rattle.std.specs.Str.{bytes_eq}
+use Rattle.edt_base.specs.Ascii.{backslash, carriage_return, colon, comma, digit_0, double_quote, form_feed, greater_than, hash, left_bracket, lower_a, lower_b, lower_e, lower_f, lower_n, lower_r, lower_t, lower_u, lower_v, lower_x, newline, question, right_bracket, single_quote, slash, space, tab, vertical_bar, vertical_tab}
 use Rattle.edt_base.specs.YamlData.{Value, a_list, a_text, items_from}
 use Rattle.yaml_profile.specs.declared.stop.Broken.{Broken}
 use Rattle.yaml_profile.specs.declared.front.Role.{Role}
@@ -58,8 +59,8 @@ plain_key frames role key at fails = if bytes_eq key (codes "<<") && not (is_val
 -- after an item of a flow list stands a comma or the closing bracket
 unfoldable pub after_item : List Frame → Value → (at c : ℕ) → Result Front Broken
 after_item (InFlow items ∷ fs) v at c =
-    if c == 44 then Ok (front (InFlow (items ++ v ∷ []) ∷ fs) (AtValue 0 false false))
-    else if c == 93 then Ok (front fs (AfterValue (Whole (a_list (items_from (items ++ v ∷ [])))) false))
+    if c == comma then Ok (front (InFlow (items ++ v ∷ []) ∷ fs) (AtValue 0 false false))
+    else if c == right_bracket then Ok (front fs (AfterValue (Whole (a_list (items_from (items ++ v ∷ [])))) false))
     else no_text (place_of at c)
 after_item frames v at c = no_text (place_of at c)
 
@@ -71,9 +72,9 @@ end_flow frames at = no_text at
 -- only spaces, a comment and the line end, and in a flow list what stands after an item
 unfoldable pub in_after_value : List Frame → Waiting → (spaced : Bool) → (at c : ℕ) → Result Front Broken
 in_after_value frames waiting spaced at c =
-    if c == 32 then Ok (front frames (AfterValue waiting true))
-    else if c == 10 then Ok (front frames (AtLine (at + 1) waiting))
-    else if (c == 35) && spaced then Ok (front frames (InComment waiting))
+    if c == space then Ok (front frames (AfterValue waiting true))
+    else if c == newline then Ok (front frames (AtLine (at + 1) waiting))
+    else if (c == hash) && spaced then Ok (front frames (InComment waiting))
     else after_item frames (value_so_far waiting) at c
 
 -- ---- where a value begins
@@ -86,13 +87,13 @@ begin_block frames folded at = if is_flow frames then no_text at
 -- the indicator of a value that isn't a text, or of a left-out form
 unfoldable pub begin_sign : List Frame → (at c : ℕ) → Result Front Broken
 begin_sign frames at c =
-    if c == 91 then open_flow frames at
-    else if c == 124 then begin_block frames false at
-    else if c == 62 then begin_block frames true at
+    if c == left_bracket then open_flow frames at
+    else if c == vertical_bar then begin_block frames false at
+    else if c == greater_than then begin_block frames true at
     else left_out at
 
 abbrev pub is_value_sign : ℕ → Bool
-is_value_sign c = (c == 91) || (c == 124) || (c == 62) || is_left_out c
+is_value_sign c = (c == left_bracket) || (c == vertical_bar) || (c == greater_than) || is_left_out c
 
 abbrev pub is_key_only : Role → Bool
 is_key_only KeyOnly = true
@@ -101,14 +102,14 @@ is_key_only _ = false
 -- a plain text begins. A tab that begins it waits as a blank: it is part of the text if a character follows that is
 -- none, and a text of tabs alone is empty
 abbrev pub begin_plain : List Frame → Role → (at c : ℕ) → Result Front Broken
-begin_plain frames role at c = if c == 9 then Ok (front frames (InPlain (put_blank nothing_yet c) role at false))
+begin_plain frames role at c = if c == tab then Ok (front frames (InPlain (put_blank nothing_yet c) role at false))
     else Ok (front frames (InPlain (put nothing_yet c) role at false))
 
 unfoldable pub begin_value : List Frame → Role → (at c : ℕ) → (rest : List ℕ) → Result Front Broken
 begin_value frames role at c rest =
-    if c == 34 then Ok (front frames (InDouble nothing_yet role at))
-    else if c == 39 then Ok (front frames (InSingle nothing_yet role at))
-    else if is_word_sign c && ends_word rest then (if (c == 63) && begins_with 32 rest then left_out at
+    if c == double_quote then Ok (front frames (InDouble nothing_yet role at))
+    else if c == single_quote then Ok (front frames (InSingle nothing_yet role at))
+    else if is_word_sign c && ends_word rest then (if (c == question) && begins_with space rest then left_out at
     else no_text (behind at rest))
     else if is_value_sign c && not (is_key_only role) then begin_sign frames at c
     else if is_value_sign c || begins_nothing c then no_text at
@@ -118,10 +119,10 @@ begin_value frames role at c rest =
 unfoldable pub in_at_value : List Frame → (start : ℕ) → (mapped spaced : Bool) → (at c : ℕ) → (rest : List ℕ)
     → Result Front Broken
 in_at_value frames start mapped spaced at c rest =
-    if c == 32 then Ok (front frames (AtValue start mapped true))
-    else if c == 10 then Ok (front frames (AtLine (at + 1) Nothing))
-    else if (c == 35) && spaced then Ok (front frames (InComment Nothing))
-    else if (c == 93) && is_flow frames then end_flow frames at
+    if c == space then Ok (front frames (AtValue start mapped true))
+    else if c == newline then Ok (front frames (AtLine (at + 1) Nothing))
+    else if (c == hash) && spaced then Ok (front frames (InComment Nothing))
+    else if (c == right_bracket) && is_flow frames then end_flow frames at
     else begin_value frames (if mapped then Either (at - start) else ValueOnly) at c rest
 
 -- ---- plain texts
@@ -138,15 +139,15 @@ plain_line frames role text at = if is_key_only role then no_text at
 -- a character more of a plain text
 abbrev pub more_plain : List Frame → Folding → Role → (begun c : ℕ) → Result Front Broken
 more_plain frames text role begun c = if is_blank c then Ok
-    (front frames (InPlain (put_blank text c) role begun (c == 32)))
-    else Ok (front frames (InPlain (put text c) role begun (c == 32)))
+    (front frames (InPlain (put_blank text c) role begun (c == space)))
+    else Ok (front frames (InPlain (put text c) role begun (c == space)))
 
 unfoldable pub in_plain : List Frame → Folding → Role → (begun : ℕ) → (spaced : Bool) → (at c : ℕ) → (rest : List ℕ)
     → Result Front Broken
 in_plain frames text role begun spaced at c rest =
-    if (c == 58) && ends_word rest then plain_key frames role text.text begun (behind at rest)
-    else if (c == 35) && spaced then plain_comment frames role text at
-    else if c == 10 then plain_line frames role text at
+    if (c == colon) && ends_word rest then plain_key frames role text.text begun (behind at rest)
+    else if (c == hash) && spaced then plain_comment frames role text at
+    else if c == newline then plain_line frames role text at
     else if is_flow_sign c && is_flow frames then after_item frames (scalar_of text.text) at c
     else more_plain frames text role begun c
 
@@ -167,9 +168,9 @@ end_quotes frames text role begun = Ok (front frames (AfterQuoted (caught_up tex
 
 unfoldable pub in_single : List Frame → Folding → Role → (begun at c : ℕ) → (rest : List ℕ) → Result Front Broken
 in_single frames text role begun at c rest =
-    if c == 39 then (if begins_with 39 rest then Ok (front frames (AtSecondQuote text role begun))
+    if c == single_quote then (if begins_with single_quote rest then Ok (front frames (AtSecondQuote text role begun))
     else end_quotes frames text role begun)
-    else if c == 10 then single_line frames role (end_line text) begun at
+    else if c == newline then single_line frames role (end_line text) begun at
     else if is_blank c then Ok (front frames (InSingle (put_blank text c) role begun))
     else Ok (front frames (InSingle (put text c) role begun))
 
@@ -178,18 +179,21 @@ at_second_quote frames text role begun c = Ok (front frames (InSingle (put text 
 
 unfoldable pub in_double : List Frame → Folding → Role → (begun at c : ℕ) → Result Front Broken
 in_double frames text role begun at c =
-    if c == 34 then end_quotes frames text role begun
-    else if c == 92 then Ok (front frames (InEscape text role begun))
-    else if c == 10 then double_line frames role (end_line text) begun at
+    if c == double_quote then end_quotes frames text role begun
+    else if c == backslash then Ok (front frames (InEscape text role begun))
+    else if c == newline then double_line frames role (end_line text) begun at
     else if is_blank c then Ok (front frames (InDouble (put_blank text c) role begun))
     else Ok (front frames (InDouble (put text c) role begun))
 
 -- the character of an escape of one character, 0 to 255; 256 where it is none
 abbrev pub escaped : ℕ → ℕ
-escaped c = if c == 48 then 0 else if c == 97 then 7 else if c == 98 then 8 else if c == 116 then 9 else if c == 110
-    then 10
-    else if c == 118 then 11 else if c == 102 then 12 else if c == 114 then 13 else if c == 101 then 27
-    else if c == 34 then 34 else if c == 47 then 47 else if c == 92 then 92 else 256
+escaped c = if c == digit_0 then 0 else if c == lower_a then 7 else if c == lower_b then 8 else if c == lower_t
+    then tab else if c == lower_n
+    then newline
+    else if c == lower_v then vertical_tab else if c == lower_f then form_feed else if c == lower_r
+    then carriage_return else if c == lower_e then 27
+    else if c == double_quote then double_quote else if c == slash then slash else if c == backslash
+    then backslash else 256
 
 -- an escape of one character
 abbrev pub put_escaped : List Frame → Folding → Role → (begun at c : ℕ) → Result Front Broken
@@ -198,9 +202,9 @@ put_escaped frames text role begun at c = if escaped c == 256 then no_text (plac
 
 unfoldable pub in_escape : List Frame → Folding → Role → (begun at c : ℕ) → Result Front Broken
 in_escape frames text role begun at c =
-    if c == 120 then Ok (front frames (InDigits text role begun 2 0))
-    else if c == 117 then Ok (front frames (InDigits text role begun 4 0))
-    else if c == 10 then double_line frames role (join_line text) begun at
+    if c == lower_x then Ok (front frames (InDigits text role begun 2 0))
+    else if c == lower_u then Ok (front frames (InDigits text role begun 4 0))
+    else if c == newline then double_line frames role (join_line text) begun at
     else put_escaped frames text role begun at c
 
 abbrev pub is_surrogate : ℕ → Bool
@@ -226,7 +230,7 @@ quoted_key frames key role begun at rest = if ends_word rest || is_value_only ro
 unfoldable pub in_after_quoted : List Frame → (text : List ℕ) → Role → (begun : ℕ) → (spaced : Bool) → (at c : ℕ)
     → (rest : List ℕ) → Result Front Broken
 in_after_quoted frames text role begun spaced at c rest =
-    if c == 32 then Ok (front frames (AfterQuoted text role begun true))
-    else if c == 58 then quoted_key frames text role begun at rest
+    if c == space then Ok (front frames (AfterQuoted text role begun true))
+    else if c == colon then quoted_key frames text role begun at rest
     else if is_key_only role then no_text at
     else in_after_value frames (Whole (a_text text)) spaced at c

@@ -4,6 +4,7 @@ use Rattle.std.specs.Char.{len_utf8}
 use Rattle.std.specs.Int.{is_in_range}
 use Rattle.std.specs.Str.{chars}
 use Rattle.std.specs.Str.Lossy.{utf8_valid_len, utf8_invalid_len}
+use Rattle.edt_base.specs.Ascii.{carriage_return, newline}
 use Rattle.edt_base.specs.YamlData.{Value, a_text, null}
 use Rattle.yaml_profile.specs.declared.stop.Broken.{Broken}
 use Rattle.yaml_profile.specs.Answers.{no_text, ◌>>=◌}
@@ -46,7 +47,7 @@ takes_return (AtTextLine start b) = false
 takes_return _ = true
 
 unfoldable pub step : Front → (at c : ℕ) → (rest : List ℕ) → Result Front Broken
-step f at c rest = if (c == 13) && begins_with 10 rest && takes_return f.inner then Ok f
+step f at c rest = if (c == carriage_return) && begins_with newline rest && takes_return f.inner then Ok f
     else taken f.frames f.inner at c rest
 
 -- the front after all these characters, the first of them at this place

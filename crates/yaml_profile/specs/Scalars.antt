@@ -2,6 +2,7 @@
 use Rattle.std.specs.Prelude.{ℕ, ℤ, pos, ◌-ℤ◌, ◌+◌, ◌-◌, ◌*◌, Bool, true, false, ◌&&◌, ◌||◌, ◌==◌, nat_le, nat_lt, List, [], ◌∷◌, Option, Some, None, codes, if◌then◌else◌}
 use Rattle.std.specs.Str.{bytes_eq}
 use Rattle.std.specs.Option.{option_map}
+use Rattle.edt_base.specs.Ascii.{colon, digit_0, digit_9, full_stop, hyphen, lower_a, lower_e, lower_f, lower_x, plus, underscore, upper_a, upper_f}
 use Rattle.edt_base.specs.YamlData.{Value, a_text, a_number, a_truth, null, other}
 use Rattle.yaml_profile.specs.Signs.{is_digit}
 
@@ -22,8 +23,8 @@ is_false = is_one_of (codes "false" ∷ codes "False" ∷ codes "FALSE" ∷ code
 
 -- the value of a digit, 16 and more where it is none
 abbrev pub digit : ℕ → ℕ
-digit c = if nat_lt c 48 then 16 else if nat_le c 57 then c - 48 else if nat_lt c 65 then 16
-    else if nat_le c 70 then c - 55 else if nat_lt c 97 then 16 else if nat_le c 102 then c - 87 else 16
+digit c = if nat_lt c digit_0 then 16 else if nat_le c digit_9 then c - digit_0 else if nat_lt c upper_a then 16
+    else if nat_le c upper_f then c - 55 else if nat_lt c lower_a then 16 else if nat_le c lower_f then c - 87 else 16
 
 -- the number that digits of this base spell after others, where it stays below 2^64
 abbrev pub spelled : ℕ → ℕ → List ℕ → Option ℕ
@@ -35,12 +36,12 @@ spelled base so_far (c ∷ cs) = if nat_lt (digit c) base && nat_lt (so_far * ba
 abbrev pub behind_zero : List ℕ → Option ℕ
 behind_zero [] = Some 0
 behind_zero (c ∷ []) = None
-behind_zero (c ∷ d ∷ ds) = if c == 120 then spelled 16 0 (d ∷ ds) else None
+behind_zero (c ∷ d ∷ ds) = if c == lower_x then spelled 16 0 (d ∷ ds) else None
 
 -- a magnitude: 0, or a digit 1 to 9 and digits, or `0x` and hexadecimal digits
 abbrev pub magnitude : List ℕ → Option ℕ
 magnitude [] = None
-magnitude (c ∷ cs) = if c == 48 then behind_zero cs else spelled 10 0 (c ∷ cs)
+magnitude (c ∷ cs) = if c == digit_0 then behind_zero cs else spelled 10 0 (c ∷ cs)
 
 abbrev pub minus : ℕ → ℤ
 minus n = pos 0 -ℤ pos n
@@ -48,26 +49,26 @@ minus n = pos 0 -ℤ pos n
 -- a whole number: a sign or none, and a magnitude
 abbrev pub whole_number : List ℕ → Option ℤ
 whole_number [] = None
-whole_number (c ∷ cs) = if c == 45 then option_map minus (magnitude cs) else if c == 43
+whole_number (c ∷ cs) = if c == hyphen then option_map minus (magnitude cs) else if c == plus
     then option_map pos (magnitude cs)
     else option_map pos (magnitude (c ∷ cs))
 
 abbrev pub is_sign : ℕ → Bool
-is_sign c = (c == 43) || (c == 45)
+is_sign c = (c == plus) || (c == hyphen)
 
 abbrev pub is_exponent : ℕ → Bool
-is_exponent c = (c == 101) || (c == 69)
+is_exponent c = (c == lower_e) || (c == 69)
 
 -- only characters of numbers, with signs after an `e` or `E` alone; `behind_e` says that one stands before
 abbrev pub goes_on : Bool → List ℕ → Bool
 goes_on behind_e [] = true
-goes_on behind_e (c ∷ cs) = (is_digit c || (c == 46) || (c == 95) || (c == 58) || is_exponent c
+goes_on behind_e (c ∷ cs) = (is_digit c || (c == full_stop) || (c == underscore) || (c == colon) || is_exponent c
     || (is_sign c && behind_e)) && goes_on (is_exponent c) cs
 
 -- what looks like a number and is no whole one
 abbrev pub is_other : List ℕ → Bool
 is_other [] = false
-is_other (c ∷ cs) = (is_digit c || (c == 46) || is_sign c) && goes_on false cs
+is_other (c ∷ cs) = (is_digit c || (c == full_stop) || is_sign c) && goes_on false cs
 
 abbrev pub number_or_text : List ℕ → Option ℤ → Value
 number_or_text t (Some n) = a_number n

@@ -3,6 +3,7 @@ use Rattle.std.specs.Prelude.{◌≡◌, ℕ, zero, suc, ◌+◌, ◌*◌, ◌<�
 use Rattle.std.specs.List.{list_all, list_any}
 use Rattle.std.specs.Prelude.{Option, Some, None}
 use Rattle.std.specs.Str.{bytes_eq, all_scalars, encode_utf8_all}
+use Rattle.edt_base.specs.Ascii.{backslash, carriage_return, colon, comma, double_quote, full_stop, greater_than, hash, hyphen, left_bracket, lower_u, lower_x, newline, plus, right_bracket, single_quote, space, tab, vertical_bar}
 use Rattle.edt_base.specs.YamlData.{Value, a_map, a_list, a_text, null, items_from}
 use Rattle.yaml_profile.specs.declared.block_text.Chomp.{Chomp}
 use Rattle.yaml_profile.specs.declared.block_text.Chomp.TheVariants.{Strip, Clip, Keep}
@@ -15,7 +16,7 @@ use Rattle.yaml_profile.specs.Pieces.{escaped, is_surrogate, is_value_sign}
 
 abbrev pub spaces : ℕ → List ℕ
 spaces zero = []
-spaces (suc n) = 32 ∷ spaces n
+spaces (suc n) = space ∷ spaces n
 
 -- ---- lines without content, and what ends a line with content: spaces, maybe a comment, and a line feed
 
@@ -24,12 +25,12 @@ pub data Ending : Type 0 where
   Noted : (n : ℕ) → (text : List ℕ) → Ending
 
 abbrev pub spell_ending : Ending → List ℕ
-spell_ending (Bare n) = spaces n ++ 10 ∷ []
-spell_ending (Noted n text) = spaces n ++ 35 ∷ (text ++ 10 ∷ [])
+spell_ending (Bare n) = spaces n ++ newline ∷ []
+spell_ending (Noted n text) = spaces n ++ hash ∷ (text ++ newline ∷ [])
 
 -- any character but a line feed
 abbrev pub is_inner : ℕ → Bool
-is_inner c = not (c == 10)
+is_inner c = not (c == newline)
 
 abbrev pub IsEnding : Ending → Type 0
 IsEnding (Bare n) = Unit {0}
@@ -53,32 +54,33 @@ AreGaps (e ∷ es) = IsEnding e × AreGaps es
 -- whether a word ends before these characters: at a space or line end, and where there are none as is said
 abbrev pub word_ends : (ended : Bool) → List ℕ → Bool
 word_ends ended [] = ended
-word_ends ended (c ∷ cs) = (c == 32) || (c == 10)
+word_ends ended (c ∷ cs) = (c == space) || (c == newline)
 
 -- these characters stay in a plain text, in a flow list or not, after a space or not: no `: ` is among them, no ` #`,
 -- no line end, and in a flow list no indicator of it
 abbrev pub stays_plain : (flow spaced ended : Bool) → List ℕ → Bool
 stays_plain flow spaced ended [] = true
-stays_plain flow spaced ended (c ∷ cs) = is_inner c && not ((c == 58) && word_ends ended cs)
-    && not ((c == 35) && spaced) && not (flow && is_flow_sign c)
-    && stays_plain flow (c == 32) ended cs
+stays_plain flow spaced ended (c ∷ cs) = is_inner c && not ((c == colon) && word_ends ended cs)
+    && not ((c == hash) && spaced) && not (flow && is_flow_sign c)
+    && stays_plain flow (c == space) ended cs
 
 -- a plain text begins with no indicator of anything else, and with `-`, `?` or `:` only before more of a word
 abbrev pub begins_plain : (ended : Bool) → (c : ℕ) → List ℕ → Bool
-begins_plain ended c cs = is_inner c && not (c == 32) && not (c == 34) && not (c == 39) && not (is_value_sign c)
+begins_plain ended c cs = is_inner c && not (c == space) && not (c == double_quote) && not (c == single_quote)
+    && not (is_value_sign c)
     && not (begins_nothing c)
     && not (is_word_sign c && word_ends ended cs)
 
 -- these are `---` or `...` as a word
 abbrev pub is_mark : (ended : Bool) → (c : ℕ) → List ℕ → Bool
-is_mark ended c (d ∷ e ∷ more) = ((c == 45) || (c == 46)) && (d == c) && (e == c) && word_ends ended more
+is_mark ended c (d ∷ e ∷ more) = ((c == hyphen) || (c == full_stop)) && (d == c) && (e == c) && word_ends ended more
 is_mark ended c _ = false
 
 -- a text may begin at this place: where it is the first on a line it begins with no tab, and at the first column,
 -- outside flow lists, with no mark
 abbrev pub may_begin : (place : Option ℕ) → (flow ended : Bool) → (c : ℕ) → List ℕ → Bool
 may_begin None flow ended c cs = true
-may_begin (Some column) flow ended c cs = not (c == 9) && not (not flow && (column == 0) && is_mark ended c cs)
+may_begin (Some column) flow ended c cs = not (c == tab) && not (not flow && (column == 0) && is_mark ended c cs)
 
 -- the first line of a plain text
 abbrev pub IsPlain : (place : Option ℕ) → (flow ended : Bool) → (c : ℕ) → List ℕ → Type 0
@@ -97,11 +99,11 @@ pub data Inner : Type 0 where
 
 abbrev pub spell_inner : Inner → List ℕ
 spell_inner (Itself c) = c ∷ []
-spell_inner (Escaped c) = 92 ∷ c ∷ []
-spell_inner (ByTwo a b) = 92 ∷ 120 ∷ a ∷ b ∷ []
-spell_inner (ByFour a b c d) = 92 ∷ 117 ∷ a ∷ b ∷ c ∷ d ∷ []
-spell_inner LineEnd = 10 ∷ []
-spell_inner Joined = 92 ∷ 10 ∷ []
+spell_inner (Escaped c) = backslash ∷ c ∷ []
+spell_inner (ByTwo a b) = backslash ∷ lower_x ∷ a ∷ b ∷ []
+spell_inner (ByFour a b c d) = backslash ∷ lower_u ∷ a ∷ b ∷ c ∷ d ∷ []
+spell_inner LineEnd = newline ∷ []
+spell_inner Joined = backslash ∷ newline ∷ []
 
 abbrev pub spell_inners : List Inner → List ℕ
 spell_inners [] = []
@@ -125,7 +127,7 @@ abbrev pub with_solid : Folding → ℕ → Folding
 with_solid t c = if is_blank c then put_blank t c else put t c
 
 abbrev pub with_char : Folding → ℕ → Folding
-with_char t c = if c == 10 then end_line t else with_solid t c
+with_char t c = if c == newline then end_line t else with_solid t c
 
 abbrev pub with_chars : Folding → List ℕ → Folding
 with_chars t [] = t
@@ -149,7 +151,7 @@ abbrev pub double_text : List Inner → List ℕ
 double_text xs = caught_up (with_inners nothing_yet xs)
 
 abbrev pub is_inner_quoted : Inner → Bool
-is_inner_quoted (Itself c) = is_inner c && not (c == 34) && not (c == 92)
+is_inner_quoted (Itself c) = is_inner c && not (c == double_quote) && not (c == backslash)
 is_inner_quoted (Escaped c) = not (escaped c == 256)
 is_inner_quoted (ByTwo a b) = is_hex a && is_hex b
 is_inner_quoted (ByFour a b c d) = is_hex a && is_hex b && is_hex c && is_hex d && not (is_surrogate (by_four a b c d))
@@ -164,13 +166,13 @@ is_line_end _ = false
 -- what stands between single quotes, where a quote is spelled twice
 abbrev pub spell_singles : List ℕ → List ℕ
 spell_singles [] = []
-spell_singles (c ∷ cs) = (if c == 39 then 39 ∷ 39 ∷ [] else c ∷ []) ++ spell_singles cs
+spell_singles (c ∷ cs) = (if c == single_quote then single_quote ∷ single_quote ∷ [] else c ∷ []) ++ spell_singles cs
 
 abbrev pub single_text : List ℕ → List ℕ
 single_text cs = caught_up (with_chars nothing_yet cs)
 
 abbrev pub is_feed : ℕ → Bool
-is_feed c = c == 10
+is_feed c = c == newline
 
 -- a further line of a plain text: the line end before it, blank lines, an indentation, and its characters
 pub record Further : Type 0 where
@@ -181,10 +183,10 @@ pub record Further : Type 0 where
 
 abbrev pub spell_blanks : List ℕ → List ℕ
 spell_blanks [] = []
-spell_blanks (n ∷ ns) = (spaces n ++ 10 ∷ []) ++ spell_blanks ns
+spell_blanks (n ∷ ns) = (spaces n ++ newline ∷ []) ++ spell_blanks ns
 
 abbrev pub spell_further : Further → List ℕ
-spell_further f = 10 ∷ (spell_blanks f.blanks ++ (spaces f.indent ++ f.first ∷ f.text))
+spell_further f = newline ∷ (spell_blanks f.blanks ++ (spaces f.indent ++ f.first ∷ f.text))
 
 abbrev pub spell_furthers : List Further → List ℕ
 spell_furthers [] = []
@@ -219,8 +221,8 @@ spell_plain c cs fs = c ∷ (cs ++ spell_furthers fs)
 
 abbrev pub spell_scalar : Scalar → List ℕ
 spell_scalar (Plain c cs fs) = spell_plain c cs fs
-spell_scalar (Double xs) = 34 ∷ (spell_inners xs ++ 34 ∷ [])
-spell_scalar (Single cs) = 39 ∷ (spell_singles cs ++ 39 ∷ [])
+spell_scalar (Double xs) = double_quote ∷ (spell_inners xs ++ double_quote ∷ [])
+spell_scalar (Single cs) = single_quote ∷ (spell_singles cs ++ single_quote ∷ [])
 
 -- at a place, in a flow list or not, where a word ends after it or not, and with the least column of its further lines
 abbrev pub IsScalarText : (place : Option ℕ) → (flow ended : Bool) → (least : ℕ) → Scalar → Type 0
@@ -276,13 +278,13 @@ mutual
 abbrev mutual
   pub spell_flow : Flow → List ℕ
   spell_flow (Text t) = spell_scalar t
-  spell_flow (Empty p) = 91 ∷ (spell_pad p ++ 93 ∷ [])
-  spell_flow (Listed es) = 91 ∷ (spell_elements es ++ 93 ∷ [])
-  spell_flow (Trailed es p) = 91 ∷ (spell_elements es ++ 44 ∷ (spell_pad p ++ 93 ∷ []))
+  spell_flow (Empty p) = left_bracket ∷ (spell_pad p ++ right_bracket ∷ [])
+  spell_flow (Listed es) = left_bracket ∷ (spell_elements es ++ right_bracket ∷ [])
+  spell_flow (Trailed es p) = left_bracket ∷ (spell_elements es ++ comma ∷ (spell_pad p ++ right_bracket ∷ []))
 
   pub spell_elements : Elements → List ℕ
   spell_elements (One p x q) = spell_pad p ++ (spell_flow x ++ spell_pad q)
-  spell_elements (Another es p x q) = spell_elements es ++ 44 ∷ (spell_pad p ++ (spell_flow x ++ spell_pad q))
+  spell_elements (Another es p x q) = spell_elements es ++ comma ∷ (spell_pad p ++ (spell_flow x ++ spell_pad q))
 
 abbrev mutual
   pub flow_value : Flow → Value
@@ -361,21 +363,21 @@ pub record Note : Type 0 where
   pub gaps : List Ending
 
 abbrev pub spell_chomp : Chomp → List ℕ
-spell_chomp Strip = 45 ∷ []
+spell_chomp Strip = hyphen ∷ []
 spell_chomp Clip = []
-spell_chomp Keep = 43 ∷ []
+spell_chomp Keep = plus ∷ []
 
 abbrev pub spell_header : Bool → Chomp → List ℕ
-spell_header true chomp = 62 ∷ spell_chomp chomp
-spell_header false chomp = 124 ∷ spell_chomp chomp
+spell_header true chomp = greater_than ∷ spell_chomp chomp
+spell_header false chomp = vertical_bar ∷ spell_chomp chomp
 
 abbrev pub spell_text : (indent c : ℕ) → List ℕ → List ℕ
-spell_text indent c cs = spaces indent ++ c ∷ (cs ++ 10 ∷ [])
+spell_text indent c cs = spaces indent ++ c ∷ (cs ++ newline ∷ [])
 
 abbrev pub spell_more : ℕ → List TextLine → List ℕ
 spell_more indent [] = []
 spell_more indent (Line c cs ∷ ls) = spell_text indent c cs ++ spell_more indent ls
-spell_more indent (Blank n ∷ ls) = (spaces n ++ 10 ∷ []) ++ spell_more indent ls
+spell_more indent (Blank n ∷ ls) = (spaces n ++ newline ∷ []) ++ spell_more indent ls
 
 abbrev pub spell_rows : Option Rows → List ℕ
 spell_rows None = []
@@ -499,12 +501,13 @@ abbrev mutual
   spell_block (Alone column l) = spaces column ++ spell_leaf l
 
   pub spell_entries : ℕ → Entries → List ℕ
-  spell_entries column (First k x) = spell_key k ++ 58 ∷ spell_node x
-  spell_entries column (Next es k x) = spell_entries column es ++ (spaces column ++ (spell_key k ++ 58 ∷ spell_node x))
+  spell_entries column (First k x) = spell_key k ++ colon ∷ spell_node x
+  spell_entries column (Next es k x) =
+      spell_entries column es ++ (spaces column ++ (spell_key k ++ colon ∷ spell_node x))
 
   pub spell_items : ℕ → Items → List ℕ
-  spell_items column (FirstItem i) = 45 ∷ spell_item column i
-  spell_items column (NextItem is i) = spell_items column is ++ (spaces column ++ 45 ∷ spell_item column i)
+  spell_items column (FirstItem i) = hyphen ∷ spell_item column i
+  spell_items column (NextItem is i) = spell_items column is ++ (spaces column ++ hyphen ∷ spell_item column i)
 
   pub spell_item : ℕ → Item → List ℕ
   spell_item column (Of x) = spell_node x
@@ -581,7 +584,7 @@ pub data Head : Type 0 where
 
 abbrev pub spell_head : Head → List ℕ
 spell_head (Unmarked gaps) = spell_gaps gaps
-spell_head (Marked before e gaps) = spell_gaps before ++ 45 ∷ 45 ∷ 45 ∷ (spell_ending e ++ spell_gaps gaps)
+spell_head (Marked before e gaps) = spell_gaps before ++ hyphen ∷ hyphen ∷ hyphen ∷ (spell_ending e ++ spell_gaps gaps)
 
 abbrev pub IsHead : Head → Type 0
 IsHead (Unmarked gaps) = AreGaps gaps
@@ -591,28 +594,29 @@ IsHead (Marked before e gaps) = AreGaps before × IsEnding e × IsApart e × Are
 -- the file
 abbrev pub end_of_line : (cut return : Bool) → (rest more : List ℕ) → List ℕ
 end_of_line true return [] more = []
-end_of_line cut true rest more = 13 ∷ 10 ∷ more
-end_of_line cut false rest more = 10 ∷ more
+end_of_line cut true rest more = carriage_return ∷ newline ∷ more
+end_of_line cut false rest more = newline ∷ more
 
 -- with such line ends, from this line on
 abbrev pub with_ends : (cut : Bool) → (returns : ℕ → Bool) → (line : ℕ) → List ℕ → List ℕ
 with_ends cut returns line [] = []
-with_ends cut returns line (c ∷ cs) = if c == 10 then end_of_line cut (returns line) cs
+with_ends cut returns line (c ∷ cs) = if c == newline then end_of_line cut (returns line) cs
     (with_ends cut returns (suc line) cs) else c ∷ with_ends cut returns line cs
 
 -- the last line has characters, and a line feed after them
 abbrev pub ends_begun : (begun : Bool) → List ℕ → Bool
 ends_begun begun [] = false
-ends_begun begun (c ∷ []) = begun && (c == 10)
-ends_begun begun (c ∷ d ∷ ds) = ends_begun (not (c == 10)) (d ∷ ds)
+ends_begun begun (c ∷ []) = begun && (c == newline)
+ends_begun begun (c ∷ d ∷ ds) = ends_begun (not (c == newline)) (d ∷ ds)
 
 -- a carriage return that is a character stands before no line feed of the file; it may stand before a line end that has
 -- one of its own, and where the last line end is cut off
 abbrev pub is_clear : (cut : Bool) → (returns : ℕ → Bool) → (line : ℕ) → List ℕ → Bool
 is_clear cut returns line [] = true
 is_clear cut returns line (c ∷ cs) =
-    if c == 10 then is_clear cut returns (suc line) cs
-    else not ((c == 13) && begins_with 10 (with_ends cut returns line cs)) && is_clear cut returns line cs
+    if c == newline then is_clear cut returns (suc line) cs
+    else not ((c == carriage_return) && begins_with newline (with_ends cut returns line cs))
+    && is_clear cut returns line cs
 
 -- a file: what stands before its value, and the value, if there is one; which lines end with a carriage return before
 -- the line feed, and whether the last line's end is cut off

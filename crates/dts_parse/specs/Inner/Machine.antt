@@ -25,12 +25,12 @@ use Rattle.dts_parse.specs.declared.mode.Wanted.TheVariants as wanted
 use Rattle.dts_parse.specs.declared.script.RawCell.{RawCell}
 use Rattle.dts_parse.specs.declared.script.RawCell.TheVariants as cell
 use Rattle.dts_parse.specs.declared.script.Target.TheVariants as target
-use Rattle.dts_parse.specs.declared.sign.Form.{Form}
-use Rattle.dts_parse.specs.declared.sign.Form.TheVariants as form
-use Rattle.dts_parse.specs.declared.sign.Sign.{Sign}
-use Rattle.dts_parse.specs.declared.sign.Sign.TheVariants as sign
-use Rattle.dts_parse.specs.declared.sign.Width.{Width}
-use Rattle.dts_parse.specs.declared.sign.Width.TheVariants.{Bits32}
+use Rattle.dts_parse.specs.declared.terminal.Form.{Form}
+use Rattle.dts_parse.specs.declared.terminal.Form.TheVariants as form
+use Rattle.dts_parse.specs.declared.terminal.Terminal.{Terminal}
+use Rattle.dts_parse.specs.declared.terminal.Terminal.TheVariants as terminal
+use Rattle.dts_parse.specs.declared.terminal.Width.{Width}
+use Rattle.dts_parse.specs.declared.terminal.Width.TheVariants.{Bits32}
 
 pub record Shape : Type 0 where
   pub mode : Mode
@@ -126,24 +126,24 @@ at_deletion s p =
     (record s { mode = mode.Directive wanted.DeletedRef; begin = p.at })
     else refused p
 
-abbrev pub in_body : Shape → Spot → Sign → Step
-in_body s p (sign.Name f) =
+abbrev pub in_body : Shape → Spot → Terminal → Step
+in_body s p (terminal.Name f) =
     if may_name (place_now s) (is_empty s.marks) f then Ok (record s { mode = mode.Named f; name = Some p }) else
     refused p
-in_body s p sign.Slash = at_opening s p (stmt p.at (Open target.Root))
-in_body s p sign.Ref = at_opening s p (stmt p.at (Open (target_of p.text)))
-in_body s p sign.Omit = at_mark s p
-in_body s p sign.RightBrace = at_close s p
-in_body s p sign.Version =
+in_body s p terminal.Slash = at_opening s p (stmt p.at (Open target.Root))
+in_body s p terminal.Ref = at_opening s p (stmt p.at (Open (target_of p.text)))
+in_body s p terminal.Omit = at_mark s p
+in_body s p terminal.RightBrace = at_close s p
+in_body s p terminal.Version =
     if is_bare s && takes_version (place_now s) then Ok (record s { mode = mode.Ending; stage = stage.Versions }) else
     refused p
-in_body s p sign.Plugin =
+in_body s p terminal.Plugin =
     if is_bare s && takes_top (place_now s) then Ok (record s { mode = mode.Ending; stage = stage.Rest }) else refused p
-in_body s p sign.Reserve =
+in_body s p terminal.Reserve =
     if is_bare s && takes_top (place_now s) then Ok
     (record s { mode = mode.Directive wanted.FirstNumber; begin = p.at }) else refused p
-in_body s p sign.DeleteNode = at_deletion s p
-in_body s p sign.DeleteProp =
+in_body s p terminal.DeleteNode = at_deletion s p
+in_body s p terminal.DeleteProp =
     if is_bare s && takes_inner (place_now s) then Ok
     (record s { mode = mode.Directive wanted.DeletedProp; begin = p.at }) else refused p
 in_body s p _ = refused p
@@ -190,40 +190,40 @@ at_child f s p n =
     })
     else refused p
 
-abbrev pub behind_name : Form → Shape → Spot → Spot → Sign → Step
-behind_name f s p n sign.Colon = at_label f s p n
-behind_name f s p n sign.Semicolon = at_flag f s p n
-behind_name f s p n sign.Equal = if is_prop s f then Ok (record s { mode = mode.Value; labels = []; marks = [] })
+abbrev pub behind_name : Form → Shape → Spot → Spot → Terminal → Step
+behind_name f s p n terminal.Colon = at_label f s p n
+behind_name f s p n terminal.Semicolon = at_flag f s p n
+behind_name f s p n terminal.Equal = if is_prop s f then Ok (record s { mode = mode.Value; labels = []; marks = [] })
     else refused p
-behind_name f s p n sign.LeftBrace = at_child f s p n
+behind_name f s p n terminal.LeftBrace = at_child f s p n
 behind_name f s p n _ = refused p
 
-abbrev pub named : Form → Shape → Spot → Sign → Step
+abbrev pub named : Form → Shape → Spot → Terminal → Step
 named f s p t = elim s.name [ None ↦ refused p | Some n ↦ behind_name f s p n t ]
 
-abbrev pub at_brace : Shape → Spot → Sign → Step
-at_brace s p sign.LeftBrace =
+abbrev pub at_brace : Shape → Spot → Terminal → Step
+at_brace s p terminal.LeftBrace =
     Ok (record s { mode = mode.Body; stage = stage.Rest; depth = suc s.depth; opened = [] ∷ s.opened })
 at_brace s p _ = refused p
 
-abbrev pub at_end : Shape → Spot → Sign → Step
-at_end s p sign.Semicolon = Ok (record s { mode = mode.Body })
+abbrev pub at_end : Shape → Spot → Terminal → Step
+at_end s p terminal.Semicolon = Ok (record s { mode = mode.Body })
 at_end s p _ = refused p
 
 -- the statement is read but for its semicolon
 abbrev pub complete : Shape → List StmtData → Step
 complete s out = Ok (record s { mode = mode.Ending; stage = stage.Rest; begin = 0; out = out })
 
-abbrev pub directive : Wanted → Shape → Spot → Sign → Step
-directive wanted.FirstNumber s p (sign.Number n) = Ok (record s { mode = mode.Directive wanted.SecondNumber })
-directive wanted.FirstNumber s p sign.Huge = Ok (record s { mode = mode.Directive wanted.SecondNumber })
-directive wanted.SecondNumber s p (sign.Number n) = complete s s.out
-directive wanted.SecondNumber s p sign.Huge = complete s s.out
-directive wanted.DeletedRef s p sign.Ref = complete s (s.out ++ stmt p.at (DelNode (target_of p.text)) ∷ [])
-directive wanted.OmittedRef s p sign.Ref = complete s (s.out ++ stmt p.at (Omit (target_of p.text)) ∷ [])
-directive wanted.DeletedChild s p (sign.Name f) = if is_node_form f then complete s (s.out
+abbrev pub directive : Wanted → Shape → Spot → Terminal → Step
+directive wanted.FirstNumber s p (terminal.Number n) = Ok (record s { mode = mode.Directive wanted.SecondNumber })
+directive wanted.FirstNumber s p terminal.Huge = Ok (record s { mode = mode.Directive wanted.SecondNumber })
+directive wanted.SecondNumber s p (terminal.Number n) = complete s s.out
+directive wanted.SecondNumber s p terminal.Huge = complete s s.out
+directive wanted.DeletedRef s p terminal.Ref = complete s (s.out ++ stmt p.at (DelNode (target_of p.text)) ∷ [])
+directive wanted.OmittedRef s p terminal.Ref = complete s (s.out ++ stmt p.at (Omit (target_of p.text)) ∷ [])
+directive wanted.DeletedChild s p (terminal.Name f) = if is_node_form f then complete s (s.out
     ++ stmt s.begin (DelNode (target.Child p.text)) ∷ []) else refused p
-directive wanted.DeletedProp s p (sign.Name f) = if is_prop_form f then complete s (s.out
+directive wanted.DeletedProp s p (terminal.Name f) = if is_prop_form f then complete s (s.out
     ++ stmt s.begin (DelProp p.text) ∷ []) else refused p
 directive _ s p _ = refused p
 
@@ -236,13 +236,13 @@ waits_colon _ s p = refused p
 abbrev pub with_part : Shape → PartData → Step
 with_part s part = Ok (record s { mode = mode.Part; parts = s.parts ++ part ∷ [] })
 
-abbrev pub in_value : Shape → Spot → Sign → Step
-in_value s p sign.Str = with_part s (Plain (record { kind = kind.Str; bytes = text_bytes p.text }))
-in_value s p sign.Ref = with_part s (Path (target_of p.text))
-in_value s p sign.Less = Ok (record s { mode = mode.Cells Bits32 listing.Empty; depth = suc s.depth })
-in_value s p sign.LeftSquare = Ok (record s { mode = mode.Pairs listing.Empty; depth = suc s.depth })
-in_value s p sign.Bits = Ok (record s { mode = mode.Bits })
-in_value s p (sign.Name f) = waits_colon f s p
+abbrev pub in_value : Shape → Spot → Terminal → Step
+in_value s p terminal.Str = with_part s (Plain (record { kind = kind.Str; bytes = text_bytes p.text }))
+in_value s p terminal.Ref = with_part s (Path (target_of p.text))
+in_value s p terminal.Less = Ok (record s { mode = mode.Cells Bits32 listing.Empty; depth = suc s.depth })
+in_value s p terminal.LeftSquare = Ok (record s { mode = mode.Pairs listing.Empty; depth = suc s.depth })
+in_value s p terminal.Bits = Ok (record s { mode = mode.Bits })
+in_value s p (terminal.Name f) = waits_colon f s p
 in_value s p _ = refused p
 
 abbrev pub assigned : Shape → Spot → Step
@@ -258,22 +258,22 @@ assigned s p = elim s.name [
   })
 ]
 
-abbrev pub behind_part : Shape → Spot → Sign → Step
-behind_part s p sign.Comma = Ok (record s { mode = mode.Value })
-behind_part s p sign.Semicolon = assigned s p
-behind_part s p (sign.Name f) = waits_colon f s p
+abbrev pub behind_part : Shape → Spot → Terminal → Step
+behind_part s p terminal.Comma = Ok (record s { mode = mode.Value })
+behind_part s p terminal.Semicolon = assigned s p
+behind_part s p (terminal.Name f) = waits_colon f s p
 behind_part s p _ = refused p
 
 abbrev pub at_width : Shape → Spot → Option Width → Step
 at_width s p None = refused p
 at_width s p (Some w) = Ok (record s { mode = mode.Angle w })
 
-abbrev pub behind_bits : Shape → Spot → Sign → Step
-behind_bits s p (sign.Number n) = at_width s p (width_of n)
+abbrev pub behind_bits : Shape → Spot → Terminal → Step
+behind_bits s p (terminal.Number n) = at_width s p (width_of n)
 behind_bits s p _ = refused p
 
-abbrev pub behind_width : Width → Shape → Spot → Sign → Step
-behind_width w s p sign.Less = Ok (record s { mode = mode.Cells w listing.Empty; depth = suc s.depth })
+abbrev pub behind_width : Width → Shape → Spot → Terminal → Step
+behind_width w s p terminal.Less = Ok (record s { mode = mode.Cells w listing.Empty; depth = suc s.depth })
 behind_width w s p _ = refused p
 
 -- a whole element of this worth, which began there
@@ -307,14 +307,15 @@ closed_list w l s p =
     })
     else refused p
 
-abbrev pub in_cells : Width → Listing → Shape → Spot → Sign → Step
-in_cells w l s p (sign.Number n) = put w false (Some n) p.at s
-in_cells w l s p sign.Huge = put w true None p.at s
-in_cells w l s p (sign.Char n) = put w false (Some n) p.at s
-in_cells w l s p sign.LeftRound = Ok (record s { mode = mode.Operand w; depth = suc s.depth; begin = p.at; long = 1 })
-in_cells w l s p sign.Ref = at_ref w s p
-in_cells w l s p sign.Greater = closed_list w l s p
-in_cells w l s p (sign.Name f) = waits_colon f s p
+abbrev pub in_cells : Width → Listing → Shape → Spot → Terminal → Step
+in_cells w l s p (terminal.Number n) = put w false (Some n) p.at s
+in_cells w l s p terminal.Huge = put w true None p.at s
+in_cells w l s p (terminal.Char n) = put w false (Some n) p.at s
+in_cells w l s p terminal.LeftRound =
+    Ok (record s { mode = mode.Operand w; depth = suc s.depth; begin = p.at; long = 1 })
+in_cells w l s p terminal.Ref = at_ref w s p
+in_cells w l s p terminal.Greater = closed_list w l s p
+in_cells w l s p (terminal.Name f) = waits_colon f s p
 in_cells w l s p _ = refused p
 
 abbrev pub closed_pairs : Listing → Shape → Spot → Step
@@ -328,10 +329,10 @@ closed_pairs l s p =
     })
     else refused p
 
-abbrev pub in_pairs : Listing → Shape → Spot → Sign → Step
-in_pairs l s p (sign.Pair b) = Ok (record s { mode = mode.Pairs listing.Elements; bytes = s.bytes ++ b ∷ [] })
-in_pairs l s p sign.RightSquare = closed_pairs l s p
-in_pairs l s p (sign.Name f) = waits_colon f s p
+abbrev pub in_pairs : Listing → Shape → Spot → Terminal → Step
+in_pairs l s p (terminal.Pair b) = Ok (record s { mode = mode.Pairs listing.Elements; bytes = s.bytes ++ b ∷ [] })
+in_pairs l s p terminal.RightSquare = closed_pairs l s p
+in_pairs l s p (terminal.Name f) = waits_colon f s p
 in_pairs l s p _ = refused p
 
 abbrev pub more_labels : Listing → Listing
@@ -343,8 +344,8 @@ labelled (mode.Cells w l) = mode.Cells w (more_labels l)
 labelled (mode.Pairs l) = mode.Pairs (more_labels l)
 labelled m = m
 
-abbrev pub at_colon : Shape → Spot → Sign → Step
-at_colon s p sign.Colon = Ok (record s { colon = false; mode = labelled s.mode })
+abbrev pub at_colon : Shape → Spot → Terminal → Step
+at_colon s p terminal.Colon = Ok (record s { colon = false; mode = labelled s.mode })
 at_colon s p _ = refused p
 
 -- ---- expressions
@@ -372,11 +373,11 @@ operand_is w s huge v = Ok (record s { mode = mode.Operator w v; long = more s.l
 abbrev pub waits : Width → Shape → Frame → List Frame → Step
 waits w s f fs = Ok (record s { mode = mode.Operand w; long = more s.long; frames = f ∷ fs })
 
-abbrev pub before_operand : Width → Shape → Spot → Sign → Step
-before_operand w s p (sign.Number n) = operand_is w s s.huge (Some n)
-before_operand w s p sign.Huge = operand_is w s true None
-before_operand w s p (sign.Char n) = operand_is w s s.huge (Some n)
-before_operand w s p sign.LeftRound =
+abbrev pub before_operand : Width → Shape → Spot → Terminal → Step
+before_operand w s p (terminal.Number n) = operand_is w s s.huge (Some n)
+before_operand w s p terminal.Huge = operand_is w s true None
+before_operand w s p (terminal.Char n) = operand_is w s s.huge (Some n)
+before_operand w s p terminal.LeftRound =
     Ok (record s { depth = suc s.depth; long = more s.long; frames = frame.Round ∷ s.frames })
 before_operand w s p t = elim (un_of t) [ None ↦ refused p | Some o ↦ waits w s (frame.Un o) s.frames ]
 
@@ -403,16 +404,16 @@ tested w s c = waits w s (frame.Cond c.worth) c.left
 abbrev pub joined : Width → Shape → BinOp → Climbed → Step
 joined w s o c = waits w s (frame.Bin o c.worth) c.left
 
-abbrev pub behind_operand : Width → Option ℕ → Shape → Spot → Sign → Step
-behind_operand w v s p sign.RightRound = closed_round w s p (climbed 12 s.frames v)
-behind_operand w v s p sign.Colon = chosen w s p (climbed 12 s.frames v)
-behind_operand w v s p sign.Question = tested w s (climbed 11 s.frames v)
+abbrev pub behind_operand : Width → Option ℕ → Shape → Spot → Terminal → Step
+behind_operand w v s p terminal.RightRound = closed_round w s p (climbed 12 s.frames v)
+behind_operand w v s p terminal.Colon = chosen w s p (climbed 12 s.frames v)
+behind_operand w v s p terminal.Question = tested w s (climbed 11 s.frames v)
 behind_operand w v s p t =
     elim (bin_of t) [ None ↦ refused p | Some o ↦ joined w s o (climbed (op_level o) s.frames v) ]
 
 -- ---- a token
 
-abbrev pub by_mode : Mode → Shape → Spot → Sign → Step
+abbrev pub by_mode : Mode → Shape → Spot → Terminal → Step
 by_mode mode.Body s p t = in_body s p t
 by_mode (mode.Named f) s p t = named f s p t
 by_mode mode.Opening s p t = at_brace s p t
@@ -427,7 +428,7 @@ by_mode (mode.Pairs l) s p t = in_pairs l s p t
 by_mode (mode.Operand w) s p t = before_operand w s p t
 by_mode (mode.Operator w v) s p t = behind_operand w v s p t
 
-abbrev pub taken : Shape → Spot → Sign → Step
+abbrev pub taken : Shape → Spot → Terminal → Step
 taken s p t = if s.colon then at_colon s p t else by_mode s.mode s p t
 
 abbrev pub in_rounds : Mode → Bool
@@ -435,7 +436,7 @@ in_rounds (mode.Operand w) = true
 in_rounds (mode.Operator w v) = true
 in_rounds _ = false
 
--- behind 4,096 tokens of an expression whatever continues it is one too many
+-- after 4,096 tokens of an expression whatever continues it is one too many
 abbrev pub limited_by : Breach → Spot → Fault → Step
 limited_by S1 p f = Err f
 limited_by _ p f = stop S2 p
@@ -447,12 +448,12 @@ limited p (Err f) = limited_by f.rule p f
 -- what stands at one byte in place of all else comes first
 abbrev pub step : Shape → Token → Step
 step s t =
-    if is_include t.sign then stop S6 t.spot
-    else if is_opening (in_rounds s.mode) t.sign && nat_le 64 s.depth then stop S2 t.spot
-    else if nat_le 4096 s.long then limited t.spot (taken s t.spot t.sign)
-    else taken s t.spot t.sign
+    if is_include t.terminal then stop S6 t.spot
+    else if is_opening (in_rounds s.mode) t.terminal && nat_le 64 s.depth then stop S2 t.spot
+    else if nat_le 4096 s.long then limited t.spot (taken s t.spot t.terminal)
+    else taken s t.spot t.terminal
 
--- a token behind others
+-- a token after others
 abbrev pub step_on : Token → Step → Step
 step_on t (Ok s) = step s t
 step_on t (Err f) = Err f

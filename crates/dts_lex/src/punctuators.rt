@@ -2,7 +2,7 @@
 
 ghost use Rattle.std.specs.Prelude.{◌≡◌, ◌≤◌, ◌<◌, ◌+◌, length, IsTrue};
 ghost use Rattle.dts_lex.specs.Tokens.{at_double, directive_in, directives, is_double, is_operator};
-ghost use Rattle.dts_lex.specs.Tokens.{is_outer_sign, sign};
+ghost use Rattle.dts_lex.specs.Tokens.{is_outer_punctuator, punctuator};
 
 /// How many bytes the directive at the start has, 0 without one.
 pub(crate) fn directive_length(bytes: &[u8]) -> usize
@@ -34,8 +34,8 @@ pub(crate) fn directive_length(bytes: &[u8]) -> usize
 
 /// How many bytes the punctuator at the start has, 0 without one; within parentheses operators are
 /// punctuators.
-pub(crate) fn sign_length(rounds: bool, bytes: &[u8]) -> usize
-    ensures length { result ≡ sign rounds bytes.now }
+pub(crate) fn punctuator_length(rounds: bool, bytes: &[u8]) -> usize
+    ensures length { result ≡ punctuator rounds bytes.now }
     ensures within { result ≤ length bytes.now }
 {
     let Some(first) = bytes.first() else {
@@ -45,7 +45,7 @@ pub(crate) fn sign_length(rounds: bool, bytes: &[u8]) -> usize
         0
     } else if rounds && at_double(bytes) {
         2
-    } else if is_outer_sign(*first) || (rounds && is_operator(*first)) {
+    } else if is_outer_punctuator(*first) || (rounds && is_operator(*first)) {
         1
     } else {
         0
@@ -75,8 +75,8 @@ fn is_double(first: u8, second: u8) -> bool
 }
 
 /// A punctuator outside parentheses and within them.
-fn is_outer_sign(byte: u8) -> bool
-    ensures { result ≡ is_outer_sign byte }
+fn is_outer_punctuator(byte: u8) -> bool
+    ensures { result ≡ is_outer_punctuator byte }
 {
     matches!(
         byte,

@@ -30,7 +30,7 @@ pub(crate) enum Width {
 
 /// A token's meaning.
 #[derive(Clone, Copy)]
-pub(crate) enum Sign {
+pub(crate) enum Terminal {
     /// `/dts-v1/`.
     Version,
     /// `/plugin/`.
