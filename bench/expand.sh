@@ -1,7 +1,9 @@
 #!/usr/bin/env bash
-# Time and memory of reading definitions and of expanding, at each doubling of the size, and of the C
-# preprocessor on the same files where it is installed. All are to grow no faster
-# than the text. The program that is timed is made in a copy of the repository.
+# Time and memory of reading definitions and of expanding, at each doubling of the size, and of `cpp` and
+# `clang -E` on the same files where they are installed. `chain`, `back` and `calls` are to grow as the
+# text does, times the binary digits of the size, since each name is barred for all that follow; `wide`
+# is refused with C7 at once, whatever its size; `bytes` ends with want of memory; the others are to grow
+# no faster than the text. The program that is timed is made in a copy of the repository.
 set -eu
 top=$(cd "$(dirname "$0")/.." && pwd)
 work=$(mktemp -d)
@@ -88,6 +90,17 @@ if kind == "header":
 elif kind == "chain":
     print("\n".join(f"#define a{i} a{i + 1}" for i in range(size - 1)))
     print(f"#define a{size - 1} z\na0")
+elif kind == "back":
+    print("\n".join(f"#define a{i} a{i + 1} a0" for i in range(size - 1)))
+    print(f"#define a{size - 1} z\na0")
+elif kind == "calls":
+    print("\n".join(f"#define f{i}(x) f{i + 1}(x)" for i in range(size)))
+    print(f"#define f{size}(x) x\nf0(1)")
+elif kind == "wide":
+    print("#define f(x) " + "x " * size + "\nf(" + "1 " * size + ")")
+elif kind == "bytes":
+    print("#define k0(x) x\n" + "\n".join(f"#define k{i}(x) k{i - 1}(x##x)" for i in range(1, size + 1)))
+    print(f"k{size}(a)")
 elif kind == "units":
     print("#define n0")
     for k in range(1, size + 1):
@@ -103,18 +116,22 @@ P
 }
 
 printf '%-10s %8s %10s %8s %10s\n' kind size bytes seconds kilobytes
-for whole in header:50000 header:100000 header:200000 chain:1024 chain:2048 chain:4096 nest:2500 nest:5000 nest:10000 \
+for whole in header:50000 header:100000 header:200000 chain:25000 chain:50000 chain:100000 back:1024 back:2048 back:4096 calls:500 calls:1000 calls:2000 \
+    wide:8192 wide:16384 wide:32768 bytes:40 nest:2500 nest:5000 nest:10000 \
     params:1024 params:2048 params:4096 units:4 units:5 units:6 units:7; do
     kind=${whole%:*} size=${whole#*:}
     text_of "$kind" "$size" >"$work/t.c"
     /usr/bin/time -f '%e %M' -o "$work/time" "$program" <"$work/t.c" >"$work/out"
     read -r seconds kilobytes <"$work/time"
     printf '%-10s %8d %10d %8s %10s\n' "$kind" "$size" "$(stat -c %s "$work/t.c")" "$seconds" "$kilobytes"
-    command -v cpp >/dev/null || continue
-    if /usr/bin/time -f '%e %M' -o "$work/time" timeout 60 cpp -P "$work/t.c" >"$work/out" 2>"$work/note"; then
-        read -r seconds kilobytes <"$work/time"
-        printf '%-10s %8d %10s %8s %10s\n' "  cpp" "$size" "" "$seconds" "$kilobytes"
-    else
-        printf '%-10s %8d %10s\n' "  cpp" "$size" refused
-    fi
+    for other in "cpp -P" "clang -E -P -x c"; do
+        command -v "${other%% *}" >/dev/null || continue
+        # shellcheck disable=SC2086
+        if (ulimit -v 8000000 && /usr/bin/time -f '%e %M' -o "$work/time" timeout 60 $other "$work/t.c" >"$work/out" 2>"$work/note"); then
+            read -r seconds kilobytes <"$work/time"
+            printf '%-10s %8d %10s %8s %10s\n' "  ${other%% *}" "$size" "" "$seconds" "$kilobytes"
+        else
+            printf '%-10s %8d %10s\n' "  ${other%% *}" "$size" refused
+        fi
+    done
 done

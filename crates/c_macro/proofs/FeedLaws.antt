@@ -1,5 +1,5 @@
 -- Rows of sides.
-use Rattle.std.proofs.Common.{◌≡◌, ℕ, zero, suc, ◌<◌, ◌≤◌, Bool, true, false, List, [], ◌∷◌, ◌++◌, Some, None, length, map, slice_index_or, refl, sym, ap, subst, ◌∙◌, arith, append_assoc}
+use Rattle.std.proofs.Common.{◌≡◌, ℕ, zero, suc, ◌<◌, ◌≤◌, Bool, true, false, List, [], ◌∷◌, ◌++◌, if◌then◌else◌, Some, None, length, map, slice_index_or, refl, sym, ap, subst, ◌∙◌, arith, append_assoc}
 use Rattle.std.specs.List.{flat_map}
 use Rattle.c_macro.specs.declared.pend.Pend.{Pend}
 use Rattle.c_macro.specs.declared.pend.Given.{Given}
@@ -12,9 +12,9 @@ use Rattle.c_macro.specs.declared.part.Part.{Part}
 use Rattle.c_macro.specs.Marked.{no_bars}
 use Rattle.c_tokens.specs.declared.tok.Tok.{Tok}
 use Rattle.c_tokens.specs.declared.tok.TokKind.TheVariants as kind
-use Rattle.c_macro.specs.SetData.{SetTable, Grown}
+use Rattle.c_macro.specs.SetData.{set_count, SetTable, Grown}
 use Rattle.c_macro.specs.Pending.{mark, marks, KnownAll, args_data, KnownArgs, part_data}
-use Rattle.c_macro.specs.Joining.{comes_to, KnownJoiner, Fed, Feeding, Building}
+use Rattle.c_macro.specs.Joining.{comes_to, KnownJoiner, Fed, Feeding, Building, last_one, fed_of, fed_items, all_fed}
 use Rattle.c_macro.proofs.SetLaws.{grown_refl, grown_trans}
 use Rattle.c_macro.proofs.PendLaws.{marks_grow, known_grow, args_grow, args_known_grow}
 
@@ -59,7 +59,7 @@ feeding_fails a b c j k l all left rest p q f e same fed = record {
   is = λ is. f.is is ∙ (ap (λ ps. comes_to b k (ones (marks b ps) ++ is)) e ∙ (ap (λ x. comes_to b k (One (mark b x) ∷ (ones (marks b rest) ++ is))) (sym same) ∙ fed.is (ones (marks b rest) ++ is)));
 }
 
-pub first_known : (s : SetTable) (left rest : List Pend) (p : Pend) → left ≡ p ∷ rest → KnownAll s left → p.set < length s
+pub first_known : (s : SetTable) (left rest : List Pend) (p : Pend) → left ≡ p ∷ rest → KnownAll s left → p.set < set_count s
 first_known s left rest p e h = (subst (KnownAll s) e h).0
 
 pub rest_known : (s : SetTable) (left rest : List Pend) (p : Pend) → left ≡ p ∷ rest → KnownAll s left → KnownAll s rest
@@ -86,13 +86,19 @@ past_args s [] i h = refl
 past_args s (x ∷ xs) zero h = absurd (omega arith)
 past_args s (x ∷ xs) (suc i) h = past_args s xs i (omega arith)
 
-pub fed_spaced : (a b c : SetTable) (j k l : Joiner) (toks rest : List Pend) (p q : Pend) (s fine : Bool) → toks ≡ p ∷ rest → q ≡ record { tok = record { spell = p.tok.spell; kind = p.tok.kind; spaced = s }; set = p.set } → KnownAll a toks → Grown a b
-    → Fed a b j k (One (mark a q) ∷ []) true → Fed b c k l (ones (marks b rest)) fine → Fed a c j l (ones (spaced_as s (marks a toks))) fine
-fed_spaced a b c j k l toks rest p q s fine e is h g f r =
-    let h1 : KnownAll a (p ∷ rest) = subst (KnownAll a) e h in
-    let r1 : Fed b c k l (ones (marks a rest)) fine = subst (λ ms. Fed b c k l (ones ms) fine) (marks_grow a b rest g h1.1) r in
+ends_of : Bool → List Marked → List Marked
+ends_of e ts = if e then last_one ts else ts
+
+pub fed_spaced : (a b c : SetTable) (j k l : Joiner) (toks rest part : List Pend) (p q : Pend) (e s fine : Bool) → toks ≡ p ∷ rest → q ≡ record { tok = record { spell = p.tok.spell; kind = p.tok.kind; spaced = s }; set = p.set } → KnownAll a toks → Grown a b
+    → marks b part ≡ (if e then last_one (marks b rest) else marks b rest)
+    → Fed a b j k (One (mark a q) ∷ []) true → Fed b c k l (ones (marks b part)) fine → Fed a c j l (ones (spaced_as s (fed_of e (marks a toks)))) fine
+unfolding ends_of
+fed_spaced a b c j k l toks rest part p q e s fine t is h g m f r =
+    let h1 : KnownAll a (p ∷ rest) = subst (KnownAll a) t h in
+    let r1 : Fed b c k l (ones (ends_of e (marks a rest))) fine = subst (λ ms. Fed b c k l (ones ms) fine) (m ∙ ap (ends_of e) (marks_grow a b rest g h1.1)) r in
     let f1 = subst (λ x. Fed a b j k (One (mark a x) ∷ []) true) is f in
-    subst (λ ps. Fed a c j l (ones (spaced_as s (marks a ps))) fine) (sym e) (fed_then a b c j k l (One (mark a (record { tok = record { spell = p.tok.spell; kind = p.tok.kind; spaced = s }; set = p.set })) ∷ []) (ones (marks a rest)) fine f1 r1)
+    subst (λ ps. Fed a c j l (ones (spaced_as s (fed_of e (marks a ps)))) fine) (sym t)
+    (fed_then a b c j k l (One (mark a (record { tok = record { spell = p.tok.spell; kind = p.tok.kind; spaced = s }; set = p.set })) ∷ []) (ones (ends_of e (marks a rest))) fine f1 r1)
 
 spaced_same : (s : SetTable) (ps : List Pend) → flat_map pend_spaced ps ≡ flat_map text_spaced (marks s ps)
 spaced_same s [] = refl
@@ -114,24 +120,24 @@ unfolding bare string_tok
 fed_string a b s j k toks t spaced fine e f =
     subst (λ x. Fed a b j k (One (bare x) ∷ []) fine) (e ∙ ap (string_tok spaced) (spellings_same s toks)) f
 
-pub building_starts : (s : SetTable) (args : List Given) (k : Joiner) (whole : List Part) → KnownJoiner s k → KnownArgs s args → ((is : List bodies.Item) → comes_to s k is ≡ bodies.joined is) → Building s s args k whole whole
-building_starts s args k whole h g e = record { grown = grown_refl s; known = h; args_known = g; is = sym (e (bodies.items (map part_data whole) (args_data s args))) }
+pub building_starts : (s : SetTable) (e : Bool) (args : List Given) (k : Joiner) (whole : List Part) → KnownJoiner s k → KnownArgs s args → ((is : List bodies.Item) → comes_to s k is ≡ bodies.joined is) → Building s s e args k whole whole
+building_starts s e args k whole h g f = record { grown = grown_refl s; known = h; args_known = g; is = sym (f (all_fed e (map part_data whole) (args_data s args))) }
 
-pub building_goes : (a b c : SetTable) (args : List Given) (k l : Joiner) (whole left rest : List Part) (p : Part) → Building a b args k whole left → left ≡ p ∷ rest → Grown b c
-    → Fed b c k l (bodies.part_items (args_data b args) (part_data p)) true → Building a c args l whole rest
-building_goes a b c args k l whole left rest p f e g fed = record {
+pub building_goes : (a b c : SetTable) (m : Bool) (args : List Given) (k l : Joiner) (whole left rest : List Part) (p : Part) → Building a b m args k whole left → left ≡ p ∷ rest → Grown b c
+    → Fed b c k l (fed_items m (args_data b args) (part_data p)) true → Building a c m args l whole rest
+building_goes a b c m args k l whole left rest p f e g fed = record {
   grown = grown_trans a b c f.grown g;
   known = fed.known;
   args_known = args_known_grow b c args g f.args_known;
-  is = f.is ∙ (ap (λ ps. comes_to b k (bodies.items (map part_data ps) (args_data b args))) e
-      ∙ (fed.is (bodies.items (map part_data rest) (args_data b args)) ∙ ap (λ x. comes_to c l (bodies.items (map part_data rest) x)) (sym (args_grow b c args g f.args_known))));
+  is = f.is ∙ (ap (λ ps. comes_to b k (all_fed m (map part_data ps) (args_data b args))) e
+      ∙ (fed.is (all_fed m (map part_data rest) (args_data b args)) ∙ ap (λ x. comes_to c l (all_fed m (map part_data rest) x)) (sym (args_grow b c args g f.args_known))));
 }
 
-pub building_fails : (a b c : SetTable) (args : List Given) (k l : Joiner) (whole left rest : List Part) (p : Part) → Building a b args k whole left → left ≡ p ∷ rest
-    → Fed b c k l (bodies.part_items (args_data b args) (part_data p)) false → None ≡ bodies.joined (bodies.items (map part_data whole) (args_data a args))
-building_fails a b c args k l whole left rest p f e fed =
-    sym (f.is ∙ (ap (λ ps. comes_to b k (bodies.items (map part_data ps) (args_data b args))) e ∙ fed.is (bodies.items (map part_data rest) (args_data b args))))
+pub building_fails : (a b c : SetTable) (m : Bool) (args : List Given) (k l : Joiner) (whole left rest : List Part) (p : Part) → Building a b m args k whole left → left ≡ p ∷ rest
+    → Fed b c k l (fed_items m (args_data b args) (part_data p)) false → None ≡ bodies.joined (all_fed m (map part_data whole) (args_data a args))
+building_fails a b c m args k l whole left rest p f e fed =
+    sym (f.is ∙ (ap (λ ps. comes_to b k (all_fed m (map part_data ps) (args_data b args))) e ∙ fed.is (all_fed m (map part_data rest) (args_data b args))))
 
-pub building_ends : (a b : SetTable) (args : List Given) (k : Joiner) (whole left : List Part) (toks : List Pend) → Building a b args k whole left → left ≡ [] → comes_to b k [] ≡ Some (marks b toks)
-    → Some (marks b toks) ≡ bodies.joined (bodies.items (map part_data whole) (args_data a args))
-building_ends a b args k whole left toks f e h = sym (f.is ∙ (ap (λ ps. comes_to b k (bodies.items (map part_data ps) (args_data b args))) e ∙ h))
+pub building_ends : (a b : SetTable) (m : Bool) (args : List Given) (k : Joiner) (whole left : List Part) (toks : List Pend) → Building a b m args k whole left → left ≡ [] → comes_to b k [] ≡ Some (marks b toks)
+    → Some (marks b toks) ≡ bodies.joined (all_fed m (map part_data whole) (args_data a args))
+building_ends a b m args k whole left toks f e h = sym (f.is ∙ (ap (λ ps. comes_to b k (all_fed m (map part_data ps) (args_data b args))) e ∙ h))

@@ -4,12 +4,13 @@ pub mod TableLaws
 pub mod OneOutcome
 pub mod Steps
 pub mod SetLaws
-pub mod BarLaws
+pub mod NumberLaws
 pub mod PartLaws
 pub mod Escapes
 pub mod PendLaws
 pub mod JoinLaws
 pub mod FeedLaws
+pub mod EndLaws
 pub mod CollectLaws
 pub mod MachineLaws
 pub mod PlaceLaws
@@ -18,3 +19,8 @@ pub mod RunLaws
 pub mod RowLaws
 pub mod TakeLaws
 pub mod NeedLaws
+pub mod MoveLaws
+pub mod FollowLaws
+pub mod CallLaws
+pub mod GlueLaws
+pub mod BarLaws

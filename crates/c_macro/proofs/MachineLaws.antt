@@ -4,12 +4,13 @@ use Rattle.std.proofs.lemmas.List.{reverse-append}
 use Rattle.std.specs.List.{list_any}
 use Rattle.c_macro.specs.declared.pend.Pend.{Pend}
 use Rattle.c_macro.specs.declared.pend.Todo.{Todo}
-use Rattle.c_macro.specs.declared.part.Part.{Part}
+use Rattle.c_macro.specs.declared.needs.Needs.{Needs}
+use Rattle.c_macro.specs.Needing.{NeedsOf}
 use Rattle.c_macro.specs.Marked.{Marked}
 use Rattle.c_macro.specs.Bodies as bodies
 use Rattle.c_macro.specs.Bodies.{tasks, task_of, is_written, is_full}
 use Rattle.c_macro.specs.SetData.{SetTable}
-use Rattle.c_macro.specs.Pending.{marks, KnownAll, KnownTasks, task_data, tasks_data, part_data}
+use Rattle.c_macro.specs.Pending.{marks, KnownAll, KnownTasks, task_data, tasks_data}
 use Rattle.c_macro.specs.Collecting.{rows_data, KnownRows, rows_size}
 use Rattle.c_macro.specs.Machine.{todo_weight, Listing}
 
@@ -67,28 +68,27 @@ rows_known_end s (q ∷ rs) r h k = (h.0, rows_known_end s rs r h.1 k)
 pub size_end : (rs : List (List Pend)) → rows_size (rs ++ [] ∷ []) ≡ rows_size rs + 1
 size_end rs = size_push rs []
 
-pub listing_starts : (parts : List Part) (whole : List (List Pend)) (todo : List Todo) → todo ≡ [] → Listing parts whole whole todo
-listing_starts parts whole todo e = record {
-  is = λ s. rw e (append-nil (tasks (map part_data parts) 0 (rows_data s whole)));
+pub listing_starts : (needs : Needs) (whole : List (List Pend)) (todo : List Todo) → todo ≡ [] → Listing needs whole whole todo
+listing_starts needs whole todo e = record {
+  is = λ s ps count n l. rw e (append-nil (tasks ps 0 (rows_data s whole)));
   known = λ s h. (h, rw e tt);
   weight = let l : todo_weight todo ≡ 0 = ap todo_weight e in omega (arith, l);
   count = omega arith;
 }
 
-pub listing_goes : (parts : List Part) (whole left rest : List (List Pend)) (row : List Pend) (todo more : List Todo) (x : Todo) → Listing parts whole left todo → left ≡ rest ++ row ∷ [] → more ≡ todo ++ x ∷ []
-    → ((s : SetTable) → length rest < length whole → task_data s x ≡ task_of (map part_data parts) (length rest) (marks s row)) → ((s : SetTable) → KnownAll s row → KnownAll s x.written × KnownAll s x.raw)
-    → length x.raw ≤ length row → Listing parts whole rest more
-listing_goes parts whole left rest row todo more x l e m is known size = record {
-  is = λ s.
-      let ps : List bodies.Part = map part_data parts in
+pub listing_goes : (needs : Needs) (whole left rest : List (List Pend)) (row : List Pend) (todo more : List Todo) (x : Todo) → Listing needs whole left todo → left ≡ rest ++ row ∷ [] → more ≡ todo ++ x ∷ []
+    → ((s : SetTable) (ps : List bodies.Part) (count : ℕ) → NeedsOf ps count needs → length rest < count → task_data s x ≡ task_of ps (length rest) (marks s row)) → ((s : SetTable) → KnownAll s row → KnownAll s x.written × KnownAll s x.raw)
+    → length x.raw ≤ length row → Listing needs whole rest more
+listing_goes needs whole left rest row todo more x l e m is known size = record {
+  is = λ s ps count n fits.
       let a : tasks_data s (reverse more) ≡ task_of ps (length rest) (marks s row) ∷ tasks_data s (reverse todo) =
-      ap (λ ts. tasks_data s (reverse ts)) m ∙ (tasks_reverse s todo x ∙ ap (λ t. t ∷ tasks_data s (reverse todo)) (is s below)) in
+      ap (λ ts. tasks_data s (reverse ts)) m ∙ (tasks_reverse s todo x ∙ ap (λ t. t ∷ tasks_data s (reverse todo)) (is s ps count n (let z = below in omega (arith, z, fits)))) in
       let b : tasks ps 0 (rows_data s left) ≡ tasks ps 0 (rows_data s rest) ++ task_of ps (length rest) (marks s row) ∷ [] =
       ap (λ rs. tasks ps 0 (rows_data s rs)) e ∙ (ap (tasks ps 0) (rows_push s rest row) ∙ (tasks_push ps 0 (rows_data s rest) (marks s row)
       ∙ ap (λ n. tasks ps 0 (rows_data s rest) ++ task_of ps n (marks s row) ∷ []) (let z : 0 + length (rows_data s rest) ≡ length rest = omega (arith, rows_length s rest) in z))) in
       ap (λ ts. tasks ps 0 (rows_data s rest) ++ ts) a
       ∙ (sym (append_assoc (tasks ps 0 (rows_data s rest)) (task_of ps (length rest) (marks s row) ∷ []) (tasks_data s (reverse todo)))
-      ∙ (ap (λ ts. ts ++ tasks_data s (reverse todo)) (sym b) ∙ l.is s));
+      ∙ (ap (λ ts. ts ++ tasks_data s (reverse todo)) (sym b) ∙ l.is s ps count n fits));
   known = λ s h.
       let k = l.known s h in
       let r = known_rows s rest row (subst (KnownRows s) e k.0) in
@@ -102,3 +102,7 @@ listing_goes parts whole left rest row todo more x l e m is known size = record 
   where
     below : length rest < length whole
     below = let a : length left ≡ length rest + 1 = ap length e ∙ length-append rest (row ∷ []) in let z = l.count in omega (arith, a, z)
+
+pub listing_ends : (needs : Needs) (whole left : List (List Pend)) (todo : List Todo) → Listing needs whole left todo → left ≡ []
+    → (s : SetTable) (ps : List bodies.Part) (count : ℕ) → NeedsOf ps count needs → length whole ≤ count → tasks_data s (reverse todo) ≡ tasks ps 0 (rows_data s whole)
+listing_ends needs whole left todo l e s ps count n fits = ap (λ (rs : List (List Pend)). tasks ps 0 (rows_data s rs) ++ tasks_data s (reverse todo)) (sym e) ∙ l.is s ps count n fits

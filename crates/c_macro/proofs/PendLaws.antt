@@ -5,14 +5,14 @@ use Rattle.c_macro.specs.declared.pend.Given.{Given}
 use Rattle.c_macro.specs.declared.pend.Todo.{Todo}
 use Rattle.c_macro.specs.Marked.{Marked}
 use Rattle.c_macro.specs.Bodies as bodies
-use Rattle.c_macro.specs.SetData.{SetTable, Grown}
+use Rattle.c_macro.specs.SetData.{set_count, SetTable, Grown}
 use Rattle.c_macro.specs.Pending.{mark, marks, KnownAll, arg_data, args_data, KnownArgs, task_data, tasks_data, KnownTasks}
 use Rattle.c_macro.proofs.SetLaws.{grown_longer, bars_grow}
 
-pub mark_grows : (a b : SetTable) (p : Pend) → Grown a b → p.set < length a → mark b p ≡ mark a p
+pub mark_grows : (a b : SetTable) (p : Pend) → Grown a b → p.set < set_count a → mark b p ≡ mark a p
 mark_grows a b p g h = ap (λ x. let m : Marked = record { tok = p.tok; bars = x } in m) (bars_grow a b p.set g h)
 
-pub set_grows : (a b : SetTable) (k : ℕ) → Grown a b → k < length a → k < length b
+pub set_grows : (a b : SetTable) (k : ℕ) → Grown a b → k < set_count a → k < set_count b
 set_grows a b k g h = let l = grown_longer a b g in omega (arith, l)
 
 pub known_grow : (a b : SetTable) (ps : List Pend) → Grown a b → KnownAll a ps → KnownAll b ps

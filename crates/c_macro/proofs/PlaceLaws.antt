@@ -5,7 +5,7 @@ use Rattle.std.proofs.lemmas.Bool.{cases_Bool}
 use Rattle.c_macro.specs.declared.pend.Pend.{Pend}
 use Rattle.c_macro.specs.Marked.{Marked, Bars, either_bars}
 use Rattle.c_macro.specs.Bodies.{spaced_as, add_bars, respaced}
-use Rattle.c_macro.specs.SetData.{SetTable, Grown, bars_of}
+use Rattle.c_macro.specs.SetData.{set_count, SetTable, Grown, bars_of}
 use Rattle.c_macro.specs.Pending.{mark, marks, KnownAll}
 use Rattle.c_macro.specs.Placing.{spaced_if, Placing}
 use Rattle.c_macro.proofs.SetLaws.{grown_refl, grown_trans, bars_grow}
@@ -39,11 +39,11 @@ placing_starts s bars spaced before (p ∷ ps) h k = record {
   size = omega arith;
 }
 
-pub last_known : (s : SetTable) (left rest : List Pend) (p : Pend) → left ≡ rest ++ p ∷ [] → KnownAll s left → p.set < length s
+pub last_known : (s : SetTable) (left rest : List Pend) (p : Pend) → left ≡ rest ++ p ∷ [] → KnownAll s left → p.set < set_count s
 last_known s left rest p e h = (known_back s rest (p ∷ []) (subst (KnownAll s) e h)).0
 
 -- a token with the names of the set barred
-barred_is : (old now new : SetTable) (bars set : ℕ) (p : Pend) → Grown old now → p.set < length old → bars < length old → bars_of new set ≡ either_bars (bars_of now p.set) (bars_of now bars)
+barred_is : (old now new : SetTable) (bars set : ℕ) (p : Pend) → Grown old now → p.set < set_count old → bars < set_count old → bars_of new set ≡ either_bars (bars_of now p.set) (bars_of now bars)
     → mark new (record { tok = p.tok; set = set }) ≡ barred (bars_of old bars) (mark old p)
 unfolding barred
 barred_is old now new bars set p g h k e =
@@ -51,7 +51,7 @@ barred_is old now new bars set p g h k e =
     (e ∙ (ap (λ b. either_bars b (bars_of now bars)) (bars_grow old now p.set g h) ∙ ap (either_bars (bars_of old p.set)) (bars_grow old now bars g k)))
 
 goes_done : (old now new : SetTable) (bars set : ℕ) (spaced first : Bool) (before after after' whole left rest : List Pend) (p : Pend)
-    → Placing old now bars spaced before after whole left → left ≡ rest ++ p ∷ [] → bars < length old → Grown now new → bars_of new set ≡ either_bars (bars_of now p.set) (bars_of now bars)
+    → Placing old now bars spaced before after whole left → left ≡ rest ++ p ∷ [] → bars < set_count old → Grown now new → bars_of new set ≡ either_bars (bars_of now p.set) (bars_of now bars)
     → (first ≡ true → rest ≡ []) → (first ≡ false → 0 < length rest) → after' ≡ after ++ spaced_if first spaced (record { tok = p.tok; set = set }) ∷ []
     → (put : List Pend) → whole ≡ left ++ put → marks now (reverse after) ≡ add_bars (bars_of old bars) (marks old put) ++ marks old (reverse before)
     → ((rest ≡ []) × (marks new (reverse after') ≡ spaced_as spaced (add_bars (bars_of old bars) (marks old whole)) ++ marks old (reverse before)))
@@ -59,7 +59,7 @@ goes_done : (old now new : SetTable) (bars set : ℕ) (spaced first : Bool) (bef
 unfolding barred
 goes_done old now new bars set spaced first before after after' whole left rest p m e hb g is last_one not_yet a put w k =
     let whole1 : whole ≡ rest ++ p ∷ put = w ∙ (ap (λ xs. xs ++ put) e ∙ append_assoc rest (p ∷ []) put) in
-    let hp : p.set < length old = (known_back old rest (p ∷ put) (subst (KnownAll old) whole1 m.whole_known)).0 in
+    let hp : p.set < set_count old = (known_back old rest (p ∷ put) (subst (KnownAll old) whole1 m.whole_known)).0 in
     let q : mark new (record { tok = p.tok; set = set }) ≡ barred (bars_of old bars) (mark old p) = barred_is old now new bars set p m.grown hp hb is in
     let later : marks new (reverse after) ≡ marks now (reverse after) = marks_grow now new (reverse after) g (known_reverse now after m.after_known) in
     let head : marks new (reverse after') ≡ mark new (spaced_if first spaced (record { tok = p.tok; set = set })) ∷ marks new (reverse after) =
@@ -82,13 +82,13 @@ goes_done old now new bars set spaced first before after after' whole left rest 
     ]
 
 pub placing_goes : (old now new : SetTable) (bars set : ℕ) (spaced first : Bool) (before after after' whole left rest : List Pend) (p : Pend)
-    → Placing old now bars spaced before after whole left → left ≡ rest ++ p ∷ [] → bars < length old → Grown now new → set < length new → bars_of new set ≡ either_bars (bars_of now p.set) (bars_of now bars)
+    → Placing old now bars spaced before after whole left → left ≡ rest ++ p ∷ [] → bars < set_count old → Grown now new → set < set_count new → bars_of new set ≡ either_bars (bars_of now p.set) (bars_of now bars)
     → (first ≡ true → rest ≡ []) → (first ≡ false → 0 < length rest) → after' ≡ after ++ spaced_if first spaced (record { tok = p.tok; set = set }) ∷ []
     → Placing old new bars spaced before after' whole rest
 placing_goes old now new bars set spaced first before after after' whole left rest p m e hb g there is last_one not_yet a =
     let l : length left ≡ length rest + 1 = ap length e ∙ length-append rest (p ∷ []) in
     let n : length after' ≡ length after + 1 = ap length a ∙ length-append after (spaced_if first spaced (record { tok = p.tok; set = set }) ∷ []) in
-    let one : (spaced_if first spaced (record { tok = p.tok; set = set })).set < length new = elim (cases_Bool first) [ inl f ↦ rw f there | inr f ↦ rw f there ] in
+    let one : (spaced_if first spaced (record { tok = p.tok; set = set })).set < set_count new = elim (cases_Bool first) [ inl f ↦ rw f there | inr f ↦ rw f there ] in
     record {
       grown = grown_trans old now new m.grown g;
       left_known = known_grow now new rest g (known_front now rest (p ∷ []) (subst (KnownAll now) e m.left_known));

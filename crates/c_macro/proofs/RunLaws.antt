@@ -17,7 +17,7 @@ use Rattle.c_macro.proofs.TurnLaws.{reverse_twice}
 use Rattle.c_macro.proofs.Steps.{starts}
 
 abbrev first_sets : SetTable
-first_sets = [] ∷ []
+first_sets = record { numbers = []; nodes = [] }
 
 pending_known : (ts : List Tok) → KnownAll first_sets (map pend_of ts)
 pending_known [] = tt

@@ -5,7 +5,7 @@ use Rattle.c_macro.specs.declared.pend.Pend.{Pend}
 use Rattle.c_macro.specs.declared.row.Enclosed.{Enclosed}
 use Rattle.c_macro.specs.Marked.{Marked}
 use Rattle.c_macro.specs.Calls.{Closes, closed, mark_of}
-use Rattle.c_macro.specs.SetData.{SetTable}
+use Rattle.c_macro.specs.SetData.{set_count, SetTable}
 use Rattle.c_macro.specs.Pending.{mark, marks, KnownAll}
 use Rattle.c_macro.specs.Walking.{IsEnclosed}
 use Rattle.c_macro.specs.Collecting.{rows_data, rows_size}
@@ -19,7 +19,7 @@ pub called_is : (s : SetTable) (commas : Option ℕ) (old new : List Pend) (e : 
 called_is s commas old new e args k f =
     sym (ap (λ xs. closed commas 0 (marks s xs)) k.whole ∙ (ap (closed commas 0) (marks_both s e.toks (e.last ∷ reverse new)) ∙ f (mark s e.last) (marks s (reverse new)) k.closes))
 
-pub called_known : (s : SetTable) (old new : List Pend) (e : Enclosed) → IsEnclosed (reverse old) e (reverse new) → KnownAll s old → KnownAll s e.toks × (e.last.set < length s) × KnownAll s new
+pub called_known : (s : SetTable) (old new : List Pend) (e : Enclosed) → IsEnclosed (reverse old) e (reverse new) → KnownAll s old → KnownAll s e.toks × (e.last.set < set_count s) × KnownAll s new
 called_known s old new e k h =
     let a : KnownAll s (e.toks ++ e.last ∷ reverse new) = subst (KnownAll s) k.whole (known_reverse s old h) in
     let b : KnownAll s (e.last ∷ reverse new) = known_back s e.toks (e.last ∷ reverse new) a in

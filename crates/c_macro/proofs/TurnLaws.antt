@@ -1,5 +1,5 @@
 -- The turns of the worklist, as steps of an expansion.
-use Rattle.std.proofs.Common.{◌≡◌, ℕ, suc, ◌+◌, ◌*◌, ◌<◌, ◌≤◌, Bool, true, false, List, [], ◌∷◌, ◌++◌, Option, Some, None, option_map, length, map, reverse, refl, sym, ap, subst, ◌∙◌, arith, append-nil, length-append, codes, if◌then◌else◌}
+use Rattle.std.proofs.Common.{◌≡◌, ℕ, suc, ◌+◌, ◌*◌, ◌<◌, ◌≤◌, Bool, true, false, List, [], ◌∷◌, ◌++◌, Option, Some, None, is_some, option_map, length, map, reverse, refl, sym, ap, subst, ◌∙◌, arith, append-nil, length-append, codes, if◌then◌else◌}
 use Rattle.std.proofs.lemmas.List.{reverse-append}
 use Rattle.edt_base.specs.declared.fault.Rule.{Rule}
 use Rattle.edt_base.specs.declared.fault.Rule.TheVariants.{C2, C3, C4, C7}
@@ -11,29 +11,27 @@ use Rattle.c_macro.specs.declared.turn.Machine.{Machine}
 use Rattle.c_macro.specs.declared.turn.Turn.{Turn}
 use Rattle.c_macro.specs.declared.turn.Turn.TheVariants as turn
 use Rattle.c_macro.specs.MacroData.{Macro}
-use Rattle.c_macro.specs.Marked.{Marked, Bars, with_bar}
-use Rattle.c_macro.specs.Bodies.{spaced_as, add_bars, parts_of, tasks, object_text}
+use Rattle.c_macro.specs.Marked.{Marked, Bars, with_bar, common_bars}
+use Rattle.c_macro.specs.Bodies.{spaced_as, add_bars, parts_of, tasks, object_text, Part, joined, items}
 use Rattle.c_macro.specs.Directive.{is_punct}
 use Rattle.c_macro.specs.Calls.{Closed, closed, commas_of, fitted}
 use Rattle.c_macro.specs.Collecting.{rows_data, rows_size}
 use Rattle.c_macro.specs.Expansion.{look_macro, look_params, look_closed, look_fitted, macro_at, Macros, Put, Object, Call, look, Outcome, Done, Refused, Replaced, unjoined, above, within, object, most_units, Ready, ArgsExpand, none}
 use Rattle.c_macro.specs.Turns.{Frame, frame_text, UpTo, Ends, CallEnds}
-use Rattle.c_macro.specs.SetData.{SetTable, Grown, bars_of}
+use Rattle.c_macro.specs.SetData.{set_count, SetTable, Grown, bars_of}
 use Rattle.c_macro.specs.Pending.{mark, marks, KnownAll, KnownTasks, KnownArgs, args_data, task_data, tasks_data, part_data}
 use Rattle.c_macro.specs.Machine.{todo_weight}
 use Rattle.c_macro.specs.Worklist.{names_of, frame_of, frames_of, KnownOpen, KnownOpens, KnownMachine, LevelEnds, TurnUpTo, TextUpTo, CallUpTo, before_todo, open_weight, opens_weight, turn_weight, Turned}
 use Rattle.c_macro.proofs.SetLaws.{grown_refl, grown_trans}
 use Rattle.c_macro.proofs.PendLaws.{mark_grows, marks_grow, known_grow, known_append, set_grows, args_grow, args_known_grow, tasks_grow, tasks_known_grow}
-use Rattle.c_macro.specs.SetData.{names_in}
-use Rattle.c_macro.proofs.BarLaws.{bars_with}
 use Rattle.c_macro.proofs.PlaceLaws.{known_reverse}
-use Rattle.c_macro.proofs.Steps.{opened, moved_on, step_put, step_bad, step_open, step_written, step_start, step_close, all_done}
+use Rattle.c_macro.proofs.Steps.{opened, moved_on, step_put, step_bad, step_open, step_written, step_start, step_close, all_done, text_above, text_unjoined}
 
 pub marks_push : (s : SetTable) (ps : List Pend) (p : Pend) → marks s (ps ++ p ∷ []) ≡ marks s ps ++ mark s p ∷ []
 marks_push s [] p = refl
 marks_push s (q ∷ ps) p = ap (λ xs. mark s q ∷ xs) (marks_push s ps p)
 
-pub put_turned : (d : Macros) (m n : Machine) (tok : Pend) → KnownMachine m → tok.set < length m.sets → n.sets ≡ m.sets → n.opens ≡ m.opens → n.pend ≡ m.pend → n.out.items ≡ m.out.items ++ tok ∷ [] → n.units ≡ m.units
+pub put_turned : (d : Macros) (m n : Machine) (tok : Pend) → KnownMachine m → tok.set < set_count m.sets → n.sets ≡ m.sets → n.opens ≡ m.opens → n.pend ≡ m.pend → n.out.items ≡ m.out.items ++ tok ∷ [] → n.units ≡ m.units
     → look d (mark m.sets tok ∷ marks m.sets (reverse m.pend)) ≡ Put (mark m.sets tok) (marks m.sets (reverse m.pend))
     → Turned d n turn.Level (LevelEnds d m (mark m.sets tok ∷ marks m.sets (reverse m.pend))) (turn_weight m turn.Level + 2)
 put_turned d m n tok k there es eo ep eout eu l = record {
@@ -102,7 +100,7 @@ length_barred : (h : Bars) (ts : List Marked) → length (add_bars h ts) ≡ len
 length_barred h [] = refl
 length_barred h (t ∷ ts) = ap suc (length_barred h ts)
 
-length_marks : (s : SetTable) (ps : List Pend) → length (marks s ps) ≡ length ps
+pub length_marks : (s : SetTable) (ps : List Pend) → length (marks s ps) ≡ length ps
 length_marks s [] = refl
 length_marks s (p ∷ ps) = ap suc (length_marks s ps)
 
@@ -114,16 +112,15 @@ new_length : (s : SetTable) (set : ℕ) (name : Pend) (toks : List Pend) → len
 new_length s set name toks = length_spaced name.tok.spaced _ ∙ (length_barred _ (marks s toks) ∙ length_marks s toks)
 
 pub text_turned : (d : Macros) (m n : Machine) (name : Pend) (set bars count : ℕ) (toks pend' : List Pend) (s : SetTable) → KnownMachine m → KnownAll m.sets toks → Grown m.sets s
-    → names_in s bars ≡ name.tok.spell ∷ names_in m.sets set → Grown s n.sets → KnownAll n.sets n.pend
+    → bars_of s bars ≡ with_bar (bars_of m.sets set) name.tok.spell → Grown s n.sets → KnownAll n.sets n.pend
     → marks n.sets (reverse n.pend) ≡ spaced_as name.tok.spaced (add_bars (bars_of s bars) (marks s toks)) ++ marks s (reverse m.pend)
     → length n.pend ≡ length m.pend + length toks → n.opens ≡ m.opens → n.out ≡ m.out → count ≡ length toks → n.units ≡ m.units + (1 + count) → m.units + 1 + count ≤ most_units
     → Turned d n turn.Level (TextUpTo d (frames_of m.sets m.opens.items) (Some (new_text m.sets set name toks)) (marks m.sets (reverse m.pend)) (marks m.sets m.out.items) m.units) (turn_weight m turn.Level)
 text_turned d m n name set bars count toks pend' s k ht g1 names g2 kp is size eo eout ec eu near =
     let g : Grown m.sets n.sets = grown_trans m.sets s n.sets g1 g2 in
-    let b : bars_of s bars ≡ with_bar (bars_of m.sets set) name.tok.spell = bars_with s bars name.tok.spell (names_in m.sets set) names in
     let new : List Marked = new_text m.sets set name toks in
     let is1 : marks n.sets (reverse n.pend) ≡ new ++ marks m.sets (reverse m.pend) =
-    is ∙ (ap (λ h. spaced_as name.tok.spaced (add_bars h (marks s toks)) ++ marks s (reverse m.pend)) b
+    is ∙ (ap (λ h. spaced_as name.tok.spaced (add_bars h (marks s toks)) ++ marks s (reverse m.pend)) names
     ∙ (ap (λ ts. spaced_as name.tok.spaced (add_bars (with_bar (bars_of m.sets set) name.tok.spell) ts) ++ marks s (reverse m.pend)) (marks_grow m.sets s toks g1 ht)
     ∙ ap (λ ts. new ++ ts) (marks_grow m.sets s (reverse m.pend) g1 (known_reverse m.sets m.pend k.pend)))) in
     let fr : frames_of n.sets n.opens.items ≡ frames_of m.sets m.opens.items = ap (λ v. frames_of n.sets v.items) eo ∙ frames_grow m.sets n.sets m.opens.items g k.opens in
@@ -211,7 +208,7 @@ placed_text a b items name set h text joined e s =
     ∙ (ap (option_map (λ ts. spaced_as name.tok.spaced (add_bars (with_bar (bars_of b set) name.tok.spell) ts))) e
     ∙ ap (λ x. option_map (λ ts. spaced_as name.tok.spaced (add_bars (with_bar x name.tok.spell) ts)) joined) s)
 
-pub object_turned : (d : Macros) (m n : Machine) (s : SetTable) (t : Turn) (tok : Pend) (mac : Macro) (text : Option (List Marked)) → KnownMachine m → tok.set < length m.sets → Grown m.sets s
+pub object_turned : (d : Macros) (m n : Machine) (s : SetTable) (t : Turn) (tok : Pend) (mac : Macro) (text : Option (List Marked)) → KnownMachine m → tok.set < set_count m.sets → Grown m.sets s
     → text ≡ object_text (mark m.sets tok) mac → look d (mark m.sets tok ∷ marks m.sets (reverse m.pend)) ≡ Object (mark m.sets tok) mac (marks m.sets (reverse m.pend))
     → Turned d n t (TextUpTo d (frames_of s m.opens.items) text (marks s (reverse m.pend)) (marks s m.out.items) m.units) (turn_weight m turn.Level)
     → Turned d n t (LevelEnds d m (mark m.sets tok ∷ marks m.sets (reverse m.pend))) (turn_weight m turn.Level + 2)
@@ -254,6 +251,51 @@ call_turned d m n s t f text k h g empty is r = record {
       record { mid = Ready [] m.units; here = subst (λ z. ArgsExpand most_units d z m.units (Ready [] m.units)) (sym todo) (none m.units); up = (x.0, y, x.2) };
   less = let w = r.less in let z : todo_weight f.todo.items ≡ 0 = ap todo_weight empty in omega (arith, w, z);
 }
+
+some_of : (o : Option (List Marked)) → true ≡ is_some o → (ts : List Marked) × (o ≡ Some ts)
+some_of None e = cc
+some_of (Some ts) e = (ts, refl)
+
+none_of : (o : Option (List Marked)) → false ≡ is_some o → o ≡ None
+none_of None e = refl
+none_of (Some ts) e = cc
+
+-- what is put in place of a call is above the limit, if its joins make tokens
+pub above_refused : (d : Macros) (m n : Machine) (f : Open) (least : ℕ) → KnownOpen m.sets f → f.todo.items ≡ []
+    → ((ts : List Marked) → joined (items (map part_data f.parts.now) (args_data m.sets f.done.items)) ≡ Some ts → least ≤ length ts) → most_units < m.units + 1 + least
+    → true ≡ is_some (joined (items (map part_data f.parts.now) (args_data m.sets f.done.items)))
+    → Turned d n (turn.Refused C7) (TurnUpTo d m (turn.Call f)) (turn_weight m (turn.Call f))
+above_refused d m n f least k empty at_least far there =
+    let fr : Frame = frame_of m.sets f in
+    let todo : fr.todo ≡ [] = ap (λ xs. tasks_data m.sets (reverse xs)) empty in
+    let x = some_of (joined (items (map part_data f.parts.now) (args_data m.sets f.done.items))) there in
+    let h : Bars = with_bar (common_bars fr.name.bars fr.last.bars) fr.name.tok.spell in
+    let new : List Marked = spaced_as fr.name.tok.spaced (add_bars h x.0) in
+    let l : length new ≡ length x.0 = length_spaced fr.name.tok.spaced (add_bars h x.0) ∙ length_barred h x.0 in
+    let text : frame_text fr fr.done ≡ Some new = ap (option_map (λ (ts : List Marked). spaced_as fr.name.tok.spaced (add_bars h ts))) (ap (λ (ps : List Part). joined (items ps fr.done)) (sym k.parts) ∙ x.1) in
+    let a = at_least x.0 x.1 in
+    record {
+      known = tt;
+      call_known = tt;
+      all = λ o q. subst (CallEnds most_units d (frames_of m.sets m.opens.items) fr m.units) (sym q) (text_above most_units d (frames_of m.sets m.opens.items) fr new m.units todo text (omega (arith, a, l, far)));
+      less = omega arith;
+    }
+
+pub unjoined_refused : (d : Macros) (m n : Machine) (f : Open) → KnownOpen m.sets f → f.todo.items ≡ []
+    → false ≡ is_some (joined (items (map part_data f.parts.now) (args_data m.sets f.done.items)))
+    → Turned d n (turn.Refused C4) (TurnUpTo d m (turn.Call f)) (turn_weight m (turn.Call f))
+unjoined_refused d m n f k empty there =
+    let fr : Frame = frame_of m.sets f in
+    let todo : fr.todo ≡ [] = ap (λ xs. tasks_data m.sets (reverse xs)) empty in
+    let x = none_of (joined (items (map part_data f.parts.now) (args_data m.sets f.done.items))) there in
+    let h : Bars = with_bar (common_bars fr.name.bars fr.last.bars) fr.name.tok.spell in
+    let text : frame_text fr fr.done ≡ None = ap (option_map (λ (ts : List Marked). spaced_as fr.name.tok.spaced (add_bars h ts))) (ap (λ (ps : List Part). joined (items ps fr.done)) (sym k.parts) ∙ x) in
+    record {
+      known = tt;
+      call_known = tt;
+      all = λ o q. subst (CallEnds most_units d (frames_of m.sets m.opens.items) fr m.units) (sym q) (text_unjoined most_units d (frames_of m.sets m.opens.items) fr m.units todo text);
+      less = omega arith;
+    }
 
 -- ---- levels and calls
 
@@ -527,11 +569,11 @@ misfit_turned d m n tok b def names c e p h s f = record {
 }
 
 pub called_turned : (d : Macros) (m n : Machine) (tok : Pend) (b : Marked) (g : Open) (names : List (List ℕ)) (c : Closed) (raws rows : List (List Pend)) (pend' : List Pend)
-    → KnownMachine m → tok.set < length m.sets → macro_at d (mark m.sets tok) ≡ Some g.def.now → g.def.now.params ≡ Some names → is_punct (codes "(") b.tok ≡ true
+    → KnownMachine m → tok.set < set_count m.sets → macro_at d (mark m.sets tok) ≡ Some g.def.now → g.def.now.params ≡ Some names → is_punct (codes "(") b.tok ≡ true
     → Some c ≡ closed (commas_of names g.def.now.variadic) 0 (marks m.sets (reverse m.pend)) → c.last ≡ mark m.sets g.last → c.rest ≡ marks m.sets (reverse g.rest)
     → Some (rows_data m.sets rows) ≡ fitted names g.def.now.variadic c.args
-    → map part_data g.parts.items ≡ parts_of g.def.now (Some names) → tasks_data m.sets (reverse g.todo.items) ≡ tasks (map part_data g.parts.items) 0 (rows_data m.sets rows)
-    → g.last.set < length m.sets → KnownAll m.sets g.rest → KnownTasks m.sets g.todo.items
+    → map part_data g.parts.now ≡ parts_of g.def.now (Some names) → tasks_data m.sets (reverse g.todo.items) ≡ tasks (map part_data g.parts.now) 0 (rows_data m.sets rows)
+    → g.last.set < set_count m.sets → KnownAll m.sets g.rest → KnownTasks m.sets g.todo.items
     → g.name ≡ tok → g.out.items ≡ m.out.items → g.written ≡ [] → g.done.items ≡ [] → n.sets ≡ m.sets → n.opens ≡ m.opens → n.units ≡ m.units → n.pend ≡ [] → n.out.items ≡ []
     → rows_size raws + length g.rest ≡ length m.pend → rows_size rows ≤ rows_size raws + 1 → todo_weight g.todo.items ≤ 2 * rows_size rows
     → Turned d n (turn.Call g) (LevelEnds d m (mark m.sets tok ∷ b ∷ marks m.sets (reverse m.pend))) (turn_weight m turn.Level + 4)

@@ -5,7 +5,7 @@ use Rattle.c_macro.specs.declared.collect.Taking.{Taking}
 use Rattle.c_macro.specs.declared.collect.Taken.{Taken}
 use Rattle.c_macro.specs.Marked.{Marked}
 use Rattle.c_macro.specs.Calls as calls
-use Rattle.c_macro.specs.SetData.{SetTable}
+use Rattle.c_macro.specs.SetData.{set_count, SetTable}
 use Rattle.c_macro.specs.Pending.{mark, marks, KnownAll}
 use Rattle.c_macro.specs.Rows.{depth_of}
 
@@ -55,5 +55,5 @@ taken_data s t rest = record { args = rows_data s t.args.items; last = mark s t.
 
 pub record KnownTaken (s : SetTable) (t : Taken) (rest : List Pend) : Type 0 where
   pub args : KnownRows s t.args.items
-  pub last : t.last.set < length s
+  pub last : t.last.set < set_count s
   pub behind : KnownAll s rest

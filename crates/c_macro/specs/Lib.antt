@@ -4,11 +4,13 @@ pub mod Collecting
 pub mod Directive
 pub mod Expansion
 pub mod Joining
+pub mod Laws
 pub mod Machine
 pub mod MacroData
 pub mod Marked
 pub mod Marking
 pub mod Needing
+pub mod NumberData
 pub mod Pending
 pub mod Placing
 pub mod Reading
@@ -16,6 +18,7 @@ pub mod Rows
 pub mod SetData
 pub mod Strings
 pub mod Table
+pub mod Texts
 pub mod Turns
 pub mod Walking
 pub mod Worklist

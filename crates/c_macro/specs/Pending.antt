@@ -7,7 +7,7 @@ use Rattle.c_macro.specs.declared.part.Part.{Part}
 use Rattle.c_macro.specs.declared.part.Part.TheVariants as part
 use Rattle.c_macro.specs.Marked.{Marked}
 use Rattle.c_macro.specs.Bodies as bodies
-use Rattle.c_macro.specs.SetData.{SetTable, bars_of}
+use Rattle.c_macro.specs.SetData.{set_count, SetTable, bars_of}
 
 -- a token with the set of its number
 abbrev pub mark : SetTable → Pend → Marked
@@ -19,10 +19,10 @@ marks s ps = map (λ p. mark s p) ps
 -- the sets of these tokens are in the table
 abbrev pub KnownAll : SetTable → List Pend → Type 0
 KnownAll s [] = Unit {0}
-KnownAll s (p ∷ ps) = (p.set < length s) × KnownAll s ps
+KnownAll s (p ∷ ps) = (p.set < set_count s) × KnownAll s ps
 
 abbrev pub part_data : Part → bodies.Part
-part_data (part.Own t) = bodies.Own t.now
+part_data (part.Own t) = bodies.Own t
 part_data part.Join = bodies.Join
 part_data (part.Text s i) = bodies.Text s i
 part_data (part.Written s i) = bodies.Written s i

@@ -1,47 +1,44 @@
--- Sets of names by their numbers; 0 is the empty one.
-use Rattle.std.specs.Prelude.{◌≡◌, ℕ, ◌+◌, ◌<◌, List, [], ◌∷◌, ◌++◌, length, slice_index_or}
-use Rattle.std.specs.List.{list_any}
+-- Sets of names by their places in a table.
+use Rattle.std.specs.Prelude.{◌≡◌, ℕ, ◌<◌, ◌≤◌, ◌+◌, Bool, true, false, cond, List, Option, Some, None, length}
+use Rattle.std.specs.Map.{lookup}
 use Rattle.std.specs.Str.{bytes_eq}
-use Rattle.c_macro.specs.declared.sets.Node.{Node}
-use Rattle.c_macro.specs.Marked.{Bars, either_bars, common_bars}
+use Rattle.c_macro.specs.declared.numbers.Node.{Node}
+use Rattle.c_macro.specs.NumberData.{Numbers, numbers_of, sets_count, AllBelow}
+use Rattle.c_macro.specs.Marked.{Bars}
 
-abbrev pub SetTable : Type 0
-SetTable = List (List (List ℕ))
+-- names with their numbers, and sets of numbers
+pub record SetTable : Type 0 where
+  pub numbers : List (List ℕ × ℕ)
+  pub nodes : List Node
 
--- the names of a set
-abbrev pub names_in : SetTable → ℕ → List (List ℕ)
-names_in sets k = slice_index_or sets k []
+abbrev pub number_in : SetTable → List ℕ → Option ℕ
+number_in s name = lookup (bytes_eq name) s.numbers
 
+abbrev pub has_number : Numbers → Option ℕ → Bool
+has_number set None = false
+has_number set (Some n) = set n
+
+-- the names of the set at a place
 abbrev pub bars_of : SetTable → ℕ → Bars
-bars_of sets k = λ n. list_any (bytes_eq n) (names_in sets k)
+bars_of s k = λ name. has_number (numbers_of s.nodes k) (number_in s name)
 
--- the table has more sets, and those that it had stand where they stood
-abbrev pub Grown : SetTable → SetTable → Type 0
-Grown old new = (more : SetTable) × (new ≡ old ++ more)
+abbrev pub set_count : SetTable → ℕ
+set_count s = sets_count s.nodes
 
--- a node is a set of its own: an earlier one with a name more
-abbrev pub sets_from : SetTable → List Node → SetTable
-sets_from sets [] = sets
-sets_from sets (n ∷ ns) = sets_from (sets ++ (n.name ∷ names_in sets n.rest) ∷ []) ns
+-- the table has no fewer sets, and those that it had stand where they stood
+pub record Grown (old new : SetTable) : Type 0 where
+  pub more : set_count old ≤ set_count new
+  pub same : (k : ℕ) → k < set_count old → bars_of new k ≡ bars_of old k
 
-abbrev pub sets_of : List Node → SetTable
-sets_of nodes = sets_from ([] ∷ []) nodes
+-- a number is that of one name; it and all numbers in sets are at most the count of the names
+pub record AreNumbered (numbers : List (List ℕ × ℕ)) (nodes : List Node) : Type 0 where
+  pub below : (name : List ℕ) (n : ℕ) → lookup (bytes_eq name) numbers ≡ Some n → n < length numbers + 1
+  pub apart : (a b : List ℕ) (n : ℕ) → lookup (bytes_eq a) numbers ≡ Some n → lookup (bytes_eq b) numbers ≡ Some n → bytes_eq a b ≡ true
+  pub sets : AllBelow (length numbers + 1) nodes
 
--- each node's other names are an earlier set; k sets stand before the first
-abbrev pub RestsBelow : ℕ → List Node → Type 0
-RestsBelow k [] = Unit {0}
-RestsBelow k (n ∷ ns) = (n.rest < k) × RestsBelow (k + 1) ns
-
--- a set that is being made of two: what it has so far and what is left of the second are what it is to have
-pub record MakesEither (old now : SetTable) (a b set from : ℕ) : Type 0 where
-  pub grown : Grown old now
-  pub set_there : set < length now
-  pub from_there : from < length now
-  pub same : either_bars (bars_of now set) (bars_of now from) ≡ either_bars (bars_of old a) (bars_of old b)
-
--- the same of what two sets have in common
-pub record MakesCommon (old now : SetTable) (a b set from : ℕ) : Type 0 where
-  pub grown : Grown old now
-  pub set_there : set < length now
-  pub from_there : from < length now
-  pub same : either_bars (bars_of now set) (common_bars (bars_of now from) (bars_of now b)) ≡ common_bars (bars_of old a) (bars_of old b)
+-- a name that had no number is given the next one
+pub record Named (old new : List (List ℕ × ℕ)) (name : List ℕ) (number : ℕ) : Type 0 where
+  pub absent : lookup (bytes_eq name) old ≡ None
+  pub next : number ≡ length old + 1
+  pub one_more : length new ≡ length old + 1
+  pub updates : (q : List ℕ) → lookup (bytes_eq q) new ≡ cond (bytes_eq name q) (Some number) (lookup (bytes_eq q) old)

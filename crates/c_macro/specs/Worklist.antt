@@ -11,7 +11,7 @@ use Rattle.c_macro.specs.Bodies.{parts_of, Task}
 use Rattle.c_macro.specs.declared.pend.Todo.{Todo}
 use Rattle.c_macro.specs.Expansion.{Macros, Outcome, Done, Refused, before, Replaced, most_units, expands}
 use Rattle.c_macro.specs.Turns.{Frame, UpTo, Ends, CallEnds}
-use Rattle.c_macro.specs.SetData.{SetTable}
+use Rattle.c_macro.specs.SetData.{set_count, SetTable}
 use Rattle.c_macro.specs.Pending.{mark, marks, KnownAll, KnownTasks, KnownArgs, args_data, task_data, tasks_data, part_data}
 use Rattle.c_macro.specs.Machine.{todo_weight}
 
@@ -39,15 +39,15 @@ frames_of s fs = reverse (map (frame_of s) fs)
 
 -- what holds of each open call
 pub record KnownOpen (s : SetTable) (f : Open) : Type 0 where
-  pub name : f.name.set < length s
-  pub last : f.last.set < length s
+  pub name : f.name.set < set_count s
+  pub last : f.last.set < set_count s
   pub rest : KnownAll s f.rest
   pub out : KnownAll s f.out.items
   pub written : KnownAll s f.written
   pub todo : KnownTasks s f.todo.items
   pub done : KnownArgs s f.done.items
   pub params : f.def.now.params ≡ Some (names_of f.def.now.params)
-  pub parts : map part_data f.parts.items ≡ parts_of f.def.now (Some (names_of f.def.now.params))
+  pub parts : map part_data f.parts.now ≡ parts_of f.def.now (Some (names_of f.def.now.params))
 
 abbrev pub KnownOpens : SetTable → List Open → Type 0
 KnownOpens s [] = Unit {0}

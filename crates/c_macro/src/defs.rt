@@ -7,23 +7,36 @@ ghost use Rattle.c_macro.specs.Reading.{directive_data};
 ghost use Rattle.edt_base.specs.declared.fault.Rule.TheVariants.{C5};
 ghost use Rattle.c_macro.specs.Table.{defs_of, is_locked, known_of};
 ghost use Rattle.c_tokens.specs.Reading.{IfRule};
+ghost use Rattle.std.specs.Map.{lookup};
+ghost use Rattle.std.specs.Str.{bytes_eq};
 
 use crate::def::Def;
 use crate::directive::{Directive, line_directive};
+use crate::ready::Ready;
 use crate::same::same_macro;
 use c_tokens::{CEnd, Line};
 use edt_base::{Rule, Text};
-use indexmap::IndexMap;
 use std::alloc::{AllocError, Global};
+use std::collections::BTreeMap;
 use std::marker::Model;
 
-/// Definitions by their names, in a hashed table (ISO C, 6.10.3). Contracts see them as `defs_of`, a
-/// map from names to macros, and the locked names as `is_locked`.
+/// A definition and its number in the order in which definitions were made.
+#[derive(Debug, Drop)]
+struct Entry {
+    ready: Ready,
+    at: u64,
+}
+
+/// Definitions by their names (ISO C, 6.10.3). Contracts see them as `defs_of`, a map from names to
+/// macros, and the locked names as `is_locked`. The table is ordered and not hashed, since names come
+/// from the input.
 #[derive(Drop)]
 pub struct Defs {
-    map: IndexMap<Text, Def>,
-    /// How many of the first entries are locked. They are never taken out, so that they stay first.
-    locked: usize,
+    map: BTreeMap<Text, Entry>,
+    /// How many definitions were made.
+    count: u64,
+    /// The definitions before this one are locked.
+    locked: u64,
     alloc: Global,
 }
 
@@ -34,7 +47,14 @@ impl Model for Defs {
 
     ghost view = { λ d. record { entries = d.map.entries; locked = d.locked } };
 
-    ghost invariant = { λ d. IsTable d.map.entries d.locked };
+    ghost invariant = { λ d. IsTable d.map.entries d.locked d.count };
+}
+
+/// The entry of a name.
+fn entry_of<'a>(map: &'a BTreeMap<Text, Entry>, name: &Text) -> Option<&'a Entry>
+    ensures { option_map (λ e. e.now) result ≡ lookup (bytes_eq name.now) map.now.entries }
+{
+    map.get(name)
 }
 
 impl Defs {
@@ -43,7 +63,8 @@ impl Defs {
         ensures { result ≡ record { entries = []; locked = 0 } }
     {
         Defs {
-            map: IndexMap::new(alloc),
+            map: BTreeMap::new(alloc),
+            count: 0,
             locked: 0,
             alloc,
         }
@@ -53,12 +74,20 @@ impl Defs {
     pub fn get(&self, name: &Text) -> Option<&Def>
         ensures { option_map (λ d. d.now) result ≡ defs_of self.now name.now }
     {
-        self.map.get(name)
+        match entry_of(&self.map, name) {
+            None => None,
+            Some(entry) => Some(entry.ready.def()),
+        }
     }
 
-    /// A number by which a name is known while the table stays as it is.
-    pub(crate) fn number(&self, name: &Text) -> usize {
-        self.map.get_index_of(name).unwrap_or(0)
+    /// The macro of a name, ready for expansion.
+    pub(crate) fn ready(&self, name: &Text) -> Option<&Ready>
+        ensures { option_map (λ r. r.now) result ≡ defs_of self.now name.now }
+    {
+        match entry_of(&self.map, name) {
+            None => None,
+            Some(entry) => Some(&entry.ready),
+        }
     }
 
     /// Locks the names that are defined so far: from here on they can't be undefined, and as every
@@ -67,7 +96,7 @@ impl Defs {
         ensures defs { (name : List ℕ) → defs_of self.new name ≡ defs_of self.old name }
         ensures locked { (name : List ℕ) → is_locked self.new name ≡ is_some (defs_of self.old name) }
     {
-        self.locked = self.map.len();
+        self.locked = self.count;
     }
 }
 
@@ -93,7 +122,7 @@ impl Defs {
         ensures err { IfErr result (λ e. IfRule e (λ r. redefined (defs_of self.old name.now) def ≡ Some r)) }
         ensures same { OnErr result (self.new ≡ self.old) }
     {
-        let Some(old) = self.map.get(name) else {
+        let Some(old) = self.get(name) else {
             self.add(name, def)?;
             return Ok(());
         };
@@ -103,22 +132,30 @@ impl Defs {
         Err(CEnd::Rule(Rule::C5))
     }
 
-    /// Defines a name that has no definition. The one error is want of memory.
+    /// Defines a name that has no definition. The one error is want of memory, or of numbers for
+    /// definitions, of which there are 2^64 - 1.
     fn add(&mut self, name: &Text, def: Def) -> Result<(), AllocError>
         requires { defs_of self.old name.now ≡ None }
         ensures ok { OnOk result (Follows (known_of self.old) (Some (Define name.now def)) (known_of self.new)) }
         ensures same { OnErr result (self.new ≡ self.old) }
     {
-        self.map.insert(name.copy(self.alloc)?, def)?;
+        if self.count == u64::MAX {
+            return Err(AllocError);
+        }
+        let name = name.copy(self.alloc)?;
+        let ready = Ready::of(self.alloc, def)?;
+        let at = self.count;
+        self.map.insert(name, Entry { ready, at })?;
+        self.count += 1;
         Ok(())
     }
 
     fn is_locked(&self, name: &Text) -> bool
         ensures { result ≡ is_locked self.now name.now }
     {
-        match self.map.get_index_of(name) {
+        match entry_of(&self.map, name) {
             None => false,
-            Some(at) => at < self.locked,
+            Some(entry) => entry.at < self.locked,
         }
     }
 
@@ -132,7 +169,7 @@ impl Defs {
         if self.is_locked(name) {
             return Err(CEnd::Rule(Rule::C5));
         }
-        self.map.swap_remove(name);
+        self.map.remove(name);
         Ok(())
     }
 

@@ -4,7 +4,7 @@ ghost use Rattle.std.specs.Prelude.{◌≡◌, ◌++◌, ◌∷◌, [], ◌<◌,
 ghost use Rattle.c_tokens.specs.Grammar.{kind_of};
 ghost use Rattle.c_macro.specs.Bodies as bodies;
 ghost use Rattle.c_macro.specs.Bodies.{joined, items, ones, spaced_as, join, joined_tok, item_toks, One};
-ghost use Rattle.c_macro.specs.SetData.{Grown, SetTable};
+ghost use Rattle.c_macro.specs.SetData.{set_count, Grown, SetTable};
 ghost use Rattle.c_macro.specs.Pending.{mark, marks, KnownAll};
 ghost use Rattle.c_macro.specs.Joining.{item_data, KnownItem, KnownLeft, KnownJoiner, Fed, FedFrom, comes_to, is_glue};
 
@@ -39,10 +39,10 @@ fn join_pends(
     a: &Pend,
     b: &Pend,
 ) -> Result<Option<Pend>, AllocError>
-    requires a { a.now.set < length sets.old }
-    requires b { b.now.set < length sets.old }
+    requires a { a.now.set < set_count sets.old }
+    requires b { b.now.set < set_count sets.old }
     ensures grown { Grown sets.old sets.new }
-    ensures known { IfOk result (λ r. IfSome r (λ p. p.set < length sets.new)) }
+    ensures known { IfOk result (λ r. IfSome r (λ p. p.set < set_count sets.new)) }
     ensures is { IfOk result (λ r. option_map (mark sets.new) r
         ≡ option_map (joined_tok (mark sets.old a.now) (mark sets.old b.now)) (kind_of (a.now.tok.spell ++ b.now.tok.spell))) }
 {
@@ -63,8 +63,8 @@ fn join_pends(
 }
 
 fn join_ones(alloc: Global, sets: &mut Sets, a: &Pend, b: &Pend) -> Result<Option<Item>, AllocError>
-    requires a { a.now.set < length sets.old }
-    requires b { b.now.set < length sets.old }
+    requires a { a.now.set < set_count sets.old }
+    requires b { b.now.set < set_count sets.old }
     ensures grown { Grown sets.old sets.new }
     ensures known { IfOk result (λ r. KnownLeft sets.new r) }
     ensures is { IfOk result (λ r. option_map (item_data sets.new) r ≡ join (One (mark sets.old a.now)) (One (mark sets.old b.now))) }

@@ -11,10 +11,12 @@ mod laws;
 mod machine;
 mod marks;
 mod needs;
+mod numbers;
 mod part;
 mod pend;
 mod place;
 mod places;
+mod ready;
 mod row;
 mod same;
 mod sets;
@@ -26,4 +28,7 @@ mod turn;
 pub use def::Def;
 pub use defs::Defs;
 pub use expansion::expand;
-pub use laws::every_text_has_one_outcome;
+pub use laws::{
+    an_expansion_costs_the_same_everywhere, an_expansion_may_be_followed, calls_are_taken,
+    every_text_has_one_outcome, idle_tokens_stay, other_bars_are_idle, words_are_joined,
+};

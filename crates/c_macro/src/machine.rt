@@ -8,18 +8,17 @@ ghost use Rattle.c_macro.specs.Bodies.{tasks, task_of, is_written, is_full, spac
 ghost use Rattle.c_macro.specs.Calls.{fitted, fit_none, fit_variable};
 ghost use Rattle.c_macro.specs.Marked.{with_bar};
 ghost use Rattle.c_macro.specs.Expansion.{macro_at};
-ghost use Rattle.c_macro.specs.SetData.{Grown, SetTable, bars_of};
+ghost use Rattle.c_macro.specs.SetData.{set_count, Grown, SetTable, bars_of};
 ghost use Rattle.c_macro.specs.Table.{defs_of};
 ghost use Rattle.c_macro.specs.Pending.{mark, marks, KnownAll, KnownTasks, KnownArgs, args_data, task_data, tasks_data, part_data};
 ghost use Rattle.c_macro.specs.Collecting.{rows_data, KnownRows, rows_size};
 ghost use Rattle.c_macro.specs.Machine.{todo_weight};
-ghost use Rattle.c_macro.specs.Needing.{NeedsOf};
+ghost use Rattle.c_macro.specs.Needing.{NeedsOf, count_of};
 
-use crate::def::Def;
 use crate::defs::Defs;
 use crate::needs::{Needs, flag};
-use crate::part::Part;
 use crate::pend::{Pend, Todo};
+use crate::ready::Ready;
 use crate::row::Row;
 use crate::sets::Sets;
 use crate::tokens::is_word;
@@ -27,14 +26,14 @@ use edt_base::Text;
 use std::alloc::{AllocError, Global};
 
 /// The macro of a token, unless its name is barred for it.
-pub(crate) fn macro_at<'a>(defs: &'a Defs, sets: &Sets, pend: &Pend) -> Option<&'a Def>
-    requires { pend.now.set < length sets.now }
+pub(crate) fn macro_at<'a>(defs: &'a Defs, sets: &Sets, pend: &Pend) -> Option<&'a Ready>
+    requires { pend.now.set < set_count sets.now }
     ensures { option_map (λ d. d.now) result ≡ macro_at (defs_of defs.now) (mark sets.now pend.now) }
 {
     if !is_word(&pend.tok) || sets.has(pend.set, &pend.tok.spell) {
         return None;
     }
-    defs.get(&pend.tok.spell)
+    defs.ready(&pend.tok.spell)
 }
 
 /// An argument for each parameter, `None` where there are too few or too many. The one error is want
@@ -48,6 +47,7 @@ pub(crate) fn fit(
     ensures is { IfOk result (λ r. (s : SetTable) → option_map (λ v. rows_data s v.items) r ≡ fitted names.now variadic (rows_data s args.items)) }
     ensures known { IfOk result (λ r. IfSome r (λ v. (s : SetTable) → KnownRows s args.items → KnownRows s v.items)) }
     ensures size { IfOk result (λ r. IfSome r (λ v. rows_size v.items ≤ rows_size args.items + 1)) }
+    ensures count { IfOk result (λ r. IfSome r (λ v. length v.items ≡ count_of (Some names.now) variadic)) }
 {
     if variadic {
         let fit = fit_variable(names, args)?;
@@ -78,6 +78,7 @@ fn fit_variable(names: &[Text], args: Vec<Row>) -> Result<Option<Vec<Row>>, Allo
     ensures is { IfOk result (λ r. (s : SetTable) → option_map (λ v. rows_data s v.items) r ≡ fit_variable (length names.now) (rows_data s args.items)) }
     ensures known { IfOk result (λ r. IfSome r (λ v. (s : SetTable) → KnownRows s args.items → KnownRows s v.items)) }
     ensures size { IfOk result (λ r. IfSome r (λ v. rows_size v.items ≤ rows_size args.items + 1)) }
+    ensures count { IfOk result (λ r. IfSome r (λ v. length v.items ≡ length names.now + 1)) }
 {
     let count = args.as_slice().len();
     let mut args = args;
@@ -128,19 +129,19 @@ fn keep_if(needed: bool, row: Row) -> Row
 /// The arguments to prepare, the first one last. The one error is want of memory.
 pub(crate) fn todos_of(
     alloc: Global,
-    parts: &[Part],
+    needs: &Needs,
     args: Vec<Row>,
 ) -> Result<Vec<Todo>, AllocError>
-    ensures is { IfOk result (λ v. (s : SetTable) → tasks_data s (reverse v.items) ≡ tasks (map part_data parts.now) 0 (rows_data s args.items)) }
+    ensures is { IfOk result (λ v. (s : SetTable) (ps : List bodies.Part) (count : ℕ) → NeedsOf ps count needs.now → length args.items ≤ count
+        → tasks_data s (reverse v.items) ≡ tasks ps 0 (rows_data s args.items)) }
     ensures known { IfOk result (λ v. (s : SetTable) → KnownRows s args.items → KnownTasks s v.items) }
     ensures weight { IfOk result (λ v. todo_weight v.items ≤ 2 * rows_size args.items) }
 {
-    let needs = Needs::of(alloc, parts, args.as_slice().len())?;
     let mut args = args;
     let mut todo = Vec::with_capacity(alloc, args.len())?;
     while let Some(row) = args.pop() {
         let number = args.as_slice().len();
-        todo.push(todo_of(&needs, number, row)?)?;
+        todo.push(todo_of(needs, number, row)?)?;
     }
     Ok(todo)
 }

@@ -5,18 +5,19 @@ ghost use Rattle.c_macro.specs.Directive.{all_params, is_va_args};
 ghost use Rattle.c_macro.specs.Bodies as bodies;
 ghost use Rattle.c_macro.specs.Bodies.{place_of, param_of, is_join, join_next, plain_part, text_of, parts};
 ghost use Rattle.c_macro.specs.Pending.{part_data};
+ghost use Rattle.c_macro.specs.Reading.{read_data};
 
 use crate::places::Places;
-use crate::tokens::is_punct;
+use crate::tokens::{copy_tok, is_punct};
 use c_tokens::Tok;
 use edt_base::Text;
 use std::alloc::{AllocError, Global};
 
 /// A part of a body.
-#[derive(Clone, Copy)]
-pub(crate) enum Part<'a> {
+#[derive(Debug, Drop)]
+pub(crate) enum Part {
     /// A token of the body.
-    Own(&'a Tok),
+    Own(Tok),
     /// `##` between two sides.
     Join,
     /// `#` and a parameter, by its number; whether white space stands before it.
@@ -25,6 +26,29 @@ pub(crate) enum Part<'a> {
     Written(bool, usize),
     /// A parameter elsewhere.
     Full(bool, usize),
+}
+
+/// A part of a body that is being read.
+#[derive(Clone, Copy)]
+enum ReadPart<'a> {
+    Own(&'a Tok),
+    Join,
+    Text(bool, usize),
+    Written(bool, usize),
+    Full(bool, usize),
+}
+
+/// A part that was read, to be kept. The one error is want of memory.
+fn kept(alloc: Global, part: ReadPart<'_>) -> Result<Part, AllocError>
+    ensures { IfOk result (λ p. part_data p ≡ read_data part.entry) }
+{
+    match part {
+        ReadPart::Own(tok) => Ok(Part::Own(copy_tok(alloc, tok)?)),
+        ReadPart::Join => Ok(Part::Join),
+        ReadPart::Text(spaced, number) => Ok(Part::Text(spaced, number)),
+        ReadPart::Written(spaced, number) => Ok(Part::Written(spaced, number)),
+        ReadPart::Full(spaced, number) => Ok(Part::Full(spaced, number)),
+    }
 }
 
 /// Whether a token is a `##` that joins, and not the right side of one.
@@ -58,13 +82,13 @@ fn text_of(calls: bool, places: &Places, t: &Tok, u: &Tok) -> Option<usize>
     }
 }
 
-fn plain_part<'a>(joined: bool, tok: &'a Tok, param: Option<usize>) -> Part<'a>
-    ensures { part_data result ≡ plain_part joined tok.now param }
+fn plain_part<'a>(joined: bool, tok: &'a Tok, param: Option<usize>) -> ReadPart<'a>
+    ensures { read_data result ≡ plain_part joined tok.now param }
 {
     match param {
-        None => Part::Own(tok),
-        Some(i) if joined => Part::Written(tok.spaced, i),
-        Some(i) => Part::Full(tok.spaced, i),
+        None => ReadPart::Own(tok),
+        Some(i) if joined => ReadPart::Written(tok.spaced, i),
+        Some(i) => ReadPart::Full(tok.spaced, i),
     }
 }
 
@@ -75,18 +99,18 @@ fn next_part<'a>(
     right: bool,
     tok: &'a Tok,
     rest: &'a [Tok],
-) -> (Part<'a>, &'a [Tok], bool)
-    ensures part { parts calls places.now right (tok.now ∷ rest.now) ≡ part_data result.0 ∷ parts calls places.now result.2 result.1.now }
+) -> (ReadPart<'a>, &'a [Tok], bool)
+    ensures part { parts calls places.now right (tok.now ∷ rest.now) ≡ read_data result.0 ∷ parts calls places.now result.2 result.1.now }
     ensures shorter { length result.1.now ≤ length rest.now }
 {
     if joins(tok, right) {
-        return (Part::Join, rest, true);
+        return (ReadPart::Join, rest, true);
     }
     let Some((next, behind)) = rest.split_first() else {
         return (plain_part(right, tok, places.number(tok)), rest, false);
     };
     if let Some(i) = text_of(calls, places, tok, next) {
-        return (Part::Text(tok.spaced, i), behind, false);
+        return (ReadPart::Text(tok.spaced, i), behind, false);
     }
     (
         plain_part(is_side(right, next), tok, places.number(tok)),
@@ -96,13 +120,13 @@ fn next_part<'a>(
 }
 
 /// The parts of a body. The one error is want of memory.
-pub(crate) fn parts<'a>(
+pub(crate) fn parts(
     alloc: Global,
     calls: bool,
     names: &[Text],
     variadic: bool,
-    body: &'a [Tok],
-) -> Result<Vec<Part<'a>>, AllocError>
+    body: &[Tok],
+) -> Result<Vec<Part>, AllocError>
     ensures { IfOk result (λ v. map part_data v.items ≡ parts calls (all_params names.now variadic) false body.now) }
 {
     let places = Places::of(alloc, names, variadic)?;
@@ -110,12 +134,12 @@ pub(crate) fn parts<'a>(
     Ok(made)
 }
 
-fn parts_by<'a>(
+fn parts_by(
     alloc: Global,
     calls: bool,
     places: &Places,
-    body: &'a [Tok],
-) -> Result<Vec<Part<'a>>, AllocError>
+    body: &[Tok],
+) -> Result<Vec<Part>, AllocError>
     ensures { IfOk result (λ v. map part_data v.items ≡ parts calls places.now false body.now) }
 {
     let mut made = Vec::with_capacity(alloc, body.len())?;
@@ -123,7 +147,7 @@ fn parts_by<'a>(
     let mut right = false;
     while let Some((tok, rest)) = left.split_first() {
         let (part, behind, join) = next_part(calls, places, right, tok, rest);
-        made.push(part)?;
+        made.push(kept(alloc, part)?)?;
         left = behind;
         right = join;
     }

@@ -3,7 +3,7 @@
 ghost use Rattle.std.specs.Prelude.{◌≡◌, ◌+◌, ◌<◌, ◌++◌, ◌∷◌, [], IfOk, OnOk, length, reverse, true, false};
 ghost use Rattle.c_macro.specs.Bodies.{spaced_as, add_bars};
 ghost use Rattle.c_macro.specs.Marked.{with_bar};
-ghost use Rattle.c_macro.specs.SetData.{Grown, SetTable, bars_of};
+ghost use Rattle.c_macro.specs.SetData.{set_count, Grown, SetTable, bars_of};
 ghost use Rattle.c_macro.specs.Pending.{marks, KnownAll};
 ghost use Rattle.c_macro.specs.Placing.{spaced_if};
 
@@ -23,7 +23,7 @@ pub(crate) fn place(
     bars: usize,
     spaced: bool,
 ) -> Result<(), AllocError>
-    requires bars { bars < length sets.old }
+    requires bars { bars < set_count sets.old }
     requires toks { KnownAll sets.old toks.items }
     requires pend { KnownAll sets.old pend.old }
     ensures grown { Grown sets.old sets.new }

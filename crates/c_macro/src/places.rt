@@ -1,8 +1,9 @@
 //! The parameters of a macro by their names.
 
 ghost use Rattle.std.specs.Prelude.{◌≡◌, IfOk, List, ℕ, length, Some, None, ◌&&◌, if◌then◌else◌};
-ghost use Rattle.std.specs.HashMap as hash;
-ghost use Rattle.std.specs.Str.{bytes_eq};
+ghost use Rattle.std.specs.BTreeMap as tree;
+ghost use Rattle.std.specs.Ordering.{nat_cmp};
+ghost use Rattle.std.specs.Cmp.Lexicographic.{slice_cmp};
 ghost use Rattle.c_macro.specs.Directive.{all_params, is_among, is_va_args};
 ghost use Rattle.c_macro.specs.Bodies.{place_of, param_of};
 
@@ -10,22 +11,23 @@ use crate::tokens::{is_va_args, is_word};
 use c_tokens::Tok;
 use edt_base::Text;
 use std::alloc::{AllocError, Global};
-use std::collections::HashMap;
+use std::collections::BTreeMap;
 use std::marker::Model;
 
-/// The parameters of a macro, with a hashed table of their places. Contracts see their names, that of
+/// The parameters of a macro, with an ordered table of their places. Contracts see their names, that of
 /// the variable part last.
 #[derive(Drop)]
 pub(crate) struct Places<'a> {
     names: &'a [Text],
     variadic: bool,
-    places: HashMap<&'a str, usize>,
+    places: BTreeMap<&'a str, usize>,
 }
 
 impl<'a> Model for Places<'a> {
     ghost use Rattle.std.specs.Prelude.{◌≡◌, List, ℕ};
-    ghost use Rattle.std.specs.HashMap as hash;
-    ghost use Rattle.std.specs.Str.{bytes_eq};
+    ghost use Rattle.std.specs.BTreeMap as tree;
+    ghost use Rattle.std.specs.Ordering.{nat_cmp};
+    ghost use Rattle.std.specs.Cmp.Lexicographic.{slice_cmp};
     ghost use Rattle.c_macro.specs.Directive.{all_params};
     ghost use Rattle.c_macro.specs.Bodies.{place_of};
 
@@ -33,14 +35,14 @@ impl<'a> Model for Places<'a> {
 
     ghost view = { λ p. all_params p.names.now p.variadic };
 
-    ghost invariant = { λ p. (q : List ℕ) → hash.get_by (λ k. bytes_eq q k.now) p.places ≡ place_of q p.names.now };
+    ghost invariant = { λ p. (q : List ℕ) → tree.get_by (λ k. slice_cmp nat_cmp q k.now) p.places ≡ place_of q p.names.now };
 }
 
 /// The place of each name; of a name that stands twice the first. The one error is want of memory.
-fn places_of<'a>(alloc: Global, names: &'a [Text]) -> Result<HashMap<&'a str, usize>, AllocError>
-    ensures { IfOk result (λ m. (q : List ℕ) → hash.get_by (λ k. bytes_eq q k.now) m ≡ place_of q names.now) }
+fn places_of<'a>(alloc: Global, names: &'a [Text]) -> Result<BTreeMap<&'a str, usize>, AllocError>
+    ensures { IfOk result (λ m. (q : List ℕ) → tree.get_by (λ k. slice_cmp nat_cmp q k.now) m ≡ place_of q names.now) }
 {
-    let mut places = HashMap::new(alloc);
+    let mut places = BTreeMap::new(alloc);
     let mut left = names;
     while let Some((name, rest)) = left.split_last() {
         places.insert(name.as_str(), rest.len())?;
@@ -49,8 +51,8 @@ fn places_of<'a>(alloc: Global, names: &'a [Text]) -> Result<HashMap<&'a str, us
     Ok(places)
 }
 
-fn place_in(places: &HashMap<&str, usize>, name: &Text) -> Option<usize>
-    ensures { result ≡ hash.get_by (λ k. bytes_eq name.now k.now) places.now }
+fn place_in(places: &BTreeMap<&str, usize>, name: &Text) -> Option<usize>
+    ensures { result ≡ tree.get_by (λ k. slice_cmp nat_cmp name.now k.now) places.now }
 {
     places.get(name.as_str()).copied()
 }

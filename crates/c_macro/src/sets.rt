@@ -1,252 +1,144 @@
-//! Sets of barred names, each kept once and known by a number.
+//! Sets of barred names, each kept once and known by its place in a table.
 
-ghost use Rattle.std.specs.Prelude.{◌≡◌, ◌++◌, ◌∷◌, [], ℕ, List, ◌<◌, ◌+◌, IfOk, IfSome, length};
+ghost use Rattle.std.specs.Prelude.{◌≡◌, [], ℕ, List, ◌<◌, IfOk, OnErr, Some, None};
+ghost use Rattle.std.specs.Map.{lookup};
+ghost use Rattle.std.specs.Str.{bytes_eq};
 ghost use Rattle.c_macro.specs.Marked.{no_bars, with_bar, either_bars, common_bars};
-ghost use Rattle.c_macro.specs.SetData.{names_in, bars_of, Grown};
+ghost use Rattle.c_macro.specs.SetData.{set_count, number_in, bars_of, Grown, Named};
 
+use crate::numbers::NumberSets;
 use edt_base::Text;
 use std::alloc::{AllocError, Global};
-use std::collections::HashMap;
+use std::collections::BTreeMap;
 use std::marker::Model;
 
-/// A set: another one with a name more.
-#[derive(Debug, Drop)]
-struct Node {
-    name: Text,
-    /// A number by which the name is looked up.
-    number: usize,
-    rest: usize,
-}
-
-/// All sets. A set's number is its node's place, counted from 1, and 0 is the empty set. Contracts
-/// see the list of the sets, each as a list of names.
+/// All sets of names. A name is numbered when it is first barred, from 1 on, and a set of names is
+/// the set of their numbers. Contracts see both tables.
 #[derive(Drop)]
 pub(crate) struct Sets {
-    nodes: Vec<Node>,
-    /// The set that a set and the number of a name make. What it says is tested before it is used.
-    made: HashMap<(usize, usize), usize>,
+    numbers: BTreeMap<Text, usize>,
+    sets: NumberSets,
     alloc: Global,
 }
 
 impl Model for Sets {
-    ghost use Rattle.std.specs.Prelude.{List, ℕ};
+    ghost use Rattle.c_macro.specs.SetData.{SetTable, AreNumbered};
 
-    ghost Value = { List (List (List ℕ)) };
+    ghost Value = { SetTable };
 
-    ghost use Rattle.c_macro.specs.SetData.{sets_of, RestsBelow};
+    ghost view = { λ s. record { numbers = s.numbers.entries; nodes = s.sets } };
 
-    ghost view = { λ s. sets_of s.nodes.items };
+    ghost invariant = { λ s. AreNumbered s.numbers.entries s.sets };
+}
 
-    ghost invariant = { λ s. RestsBelow 1 s.nodes.items };
+/// The number of a name.
+fn number_of(numbers: &BTreeMap<Text, usize>, name: &Text) -> Option<usize>
+    ensures { result ≡ lookup (bytes_eq name.now) numbers.now.entries }
+{
+    numbers.get(name).copied()
+}
+
+/// Gives the next number to a name that has none. The one error is want of memory.
+fn give_number(numbers: &mut BTreeMap<Text, usize>, name: Text) -> Result<usize, AllocError>
+    requires { lookup (bytes_eq name) numbers.old.entries ≡ None }
+    ensures given { IfOk result (Named numbers.old.entries numbers.new.entries name) }
+    ensures same { OnErr result (numbers.new.entries ≡ numbers.old.entries) }
+{
+    let number = numbers.len() + 1;
+    numbers.insert(name, number)?;
+    Ok(number)
 }
 
 impl Sets {
-    /// The empty set alone.
+    /// The empty set, and no names.
     pub(crate) fn new(alloc: Global) -> Sets
-        ensures { result ≡ [] ∷ [] }
+        ensures { result ≡ record { numbers = []; nodes = [] } }
     {
         Sets {
-            nodes: Vec::new(alloc),
-            made: HashMap::new(alloc),
+            numbers: BTreeMap::new(alloc),
+            sets: NumberSets::new(alloc),
             alloc,
         }
     }
 
-    /// The node of a set that isn't empty.
-    fn node(&self, set: usize) -> &Node
-        requires some { 0 < set }
-        requires there { set < length self.now }
-        ensures names { names_in self.now set ≡ result.now.name ∷ names_in self.now result.now.rest }
-        ensures earlier { result.now.rest < set }
-    {
-        let _nodes = self.nodes.as_slice();
-        &self.nodes[set - 1]
-    }
-
-    /// How many sets there are.
-    fn count(&self) -> usize
-        ensures count { result ≡ length self.now }
-        ensures empty { names_in self.now 0 ≡ [] }
-        ensures some { 0 < result }
-    {
-        let nodes = self.nodes.as_slice();
-        nodes.len() + 1
-    }
-
-    /// The number of the empty set.
+    /// The place of the empty set.
     pub(crate) fn empty(&self) -> usize
-        ensures there { result < length self.now }
+        ensures there { result < set_count self.now }
         ensures none { bars_of self.now result ≡ no_bars }
     {
-        let _count = self.count();
         0
     }
 
     /// Whether a name is in a set.
     pub(crate) fn has(&self, set: usize, name: &Text) -> bool
-        requires { set < length self.now }
+        requires { set < set_count self.now }
         ensures { result ≡ bars_of self.now set name.now }
     {
-        let mut at = set;
-        let _count = self.count();
-        while at > 0 {
-            let node = self.node(at);
-            if name.as_str() == node.name.as_str() {
-                return true;
-            }
-            at = node.rest;
+        if set == 0 {
+            return false;
         }
-        false
+        match number_of(&self.numbers, name) {
+            None => false,
+            Some(number) => self.sets.has(set, number),
+        }
     }
 
-    /// The set with a name more, if it is already there.
-    fn known(&self, set: usize, name: &Text, number: usize) -> Option<usize>
-        ensures { IfSome result (λ r. (r < length self.now) × (names_in self.now r ≡ name.now ∷ names_in self.now set)) }
+    /// The number of a name, which is given to it if it has none. The one error is want of memory.
+    fn number(&mut self, name: &Text) -> Result<usize, AllocError>
+        ensures grown { Grown self.old self.new }
+        ensures nodes { self.new.nodes ≡ self.old.nodes }
+        ensures number { IfOk result (λ n. number_in self.new name.now ≡ Some n) }
     {
-        let key = (set, number);
-        let found = *self.made.get(&key)?;
-        if found == 0 || found >= self.count() {
-            return None;
+        if let Some(number) = number_of(&self.numbers, name) {
+            return Ok(number);
         }
-        let node = self.node(found);
-        if node.rest == set && name.as_str() == node.name.as_str() {
-            Some(found)
-        } else {
-            None
-        }
+        let name = name.copy(self.alloc)?;
+        let number = give_number(&mut self.numbers, name)?;
+        Ok(number)
+    }
+
+    /// The set with a number more, which a name has. The one error is want of memory.
+    fn with_number(&mut self, set: usize, number: usize) -> Result<usize, AllocError>
+        requires set { set < set_count self.old }
+        requires number { (name : List ℕ) × (number_in self.old name ≡ Some number) }
+        ensures grown { Grown self.old self.new }
+        ensures set { IfOk result (λ r. (r < set_count self.new) × ((name : List ℕ) → number_in self.old name ≡ Some number
+            → bars_of self.new r ≡ with_bar (bars_of self.old set) name)) }
+    {
+        let made = self.sets.with(set, number)?;
+        Ok(made)
     }
 
     /// The set with a name more. The one error is want of memory.
-    pub(crate) fn with(
-        &mut self,
-        set: usize,
-        name: &Text,
-        number: usize,
-    ) -> Result<usize, AllocError>
-        requires { set < length self.old }
+    pub(crate) fn with(&mut self, set: usize, name: &Text) -> Result<usize, AllocError>
+        requires { set < set_count self.old }
         ensures grown { Grown self.old self.new }
-        ensures set { IfOk result (λ r. (r < length self.new) × (names_in self.new r ≡ name.now ∷ names_in self.old set)) }
+        ensures set { IfOk result (λ r. (r < set_count self.new) × (bars_of self.new r ≡ with_bar (bars_of self.old set) name.now)) }
     {
-        if let Some(found) = self.known(set, name, number) {
-            return Ok(found);
-        }
-        let copy = name.copy(self.alloc)?;
-        let made = self.push(set, copy, number)?;
+        let number = self.number(name)?;
+        let made = self.with_number(set, number)?;
         Ok(made)
-    }
-
-    /// Makes the set with a name more.
-    fn push(&mut self, set: usize, name: Text, number: usize) -> Result<usize, AllocError>
-        requires { set < length self.old }
-        ensures grown { Grown self.old self.new }
-        ensures set { IfOk result (λ r. (r < length self.new) × (names_in self.new r ≡ name ∷ names_in self.old set)) }
-    {
-        let made = self.count();
-        self.made.insert((set, number), made)?;
-        self.nodes.push(Node {
-            name,
-            number,
-            rest: set,
-        })?;
-        Ok(made)
-    }
-}
-
-impl Sets {
-    /// The set with the first name of another more, and that other set without it. The one error is
-    /// want of memory.
-    fn with_first_of(&mut self, set: usize, from: usize) -> Result<(usize, usize), AllocError>
-        requires set { set < length self.old }
-        requires some { 0 < from }
-        requires there { from < length self.old }
-        ensures grown { Grown self.old self.new }
-        ensures fewer { IfOk result (λ r. r.1 < from) }
-        ensures made { IfOk result (λ r. r.0 < length self.new) }
-        ensures set { IfOk result (λ r. either_bars (bars_of self.new r.0) (bars_of self.old r.1)
-            ≡ either_bars (bars_of self.old set) (bars_of self.old from)) }
-    {
-        let node = self.node(from);
-        let (number, rest) = (node.number, node.rest);
-        if self.has(set, &node.name) {
-            return Ok((set, rest));
-        }
-        let name = node.name.copy(self.alloc)?;
-        let made = self.with(set, &name, number)?;
-        Ok((made, rest))
     }
 
     /// The names of one set or the other. The one error is want of memory.
     pub(crate) fn either(&mut self, a: usize, b: usize) -> Result<usize, AllocError>
-        requires a { a < length self.old }
-        requires b { b < length self.old }
+        requires a { a < set_count self.old }
+        requires b { b < set_count self.old }
         ensures grown { Grown self.old self.new }
-        ensures set { IfOk result (λ r. (r < length self.new) × (bars_of self.new r ≡ either_bars (bars_of self.old a) (bars_of self.old b))) }
+        ensures set { IfOk result (λ r. (r < set_count self.new) × (bars_of self.new r ≡ either_bars (bars_of self.old a) (bars_of self.old b))) }
     {
-        let _count = self.count();
-        if a == 0 {
-            return Ok(b);
-        }
-        let mut set = a;
-        let mut from = b;
-        while from > 0 {
-            let (more, rest) = self.with_first_of(set, from)?;
-            set = more;
-            from = rest;
-        }
-        Ok(set)
-    }
-}
-
-impl Sets {
-    /// The set with the first name of another more, if `b` has it too, and that other set without it.
-    /// The one error is want of memory.
-    fn with_common_of(
-        &mut self,
-        set: usize,
-        from: usize,
-        b: usize,
-    ) -> Result<(usize, usize), AllocError>
-        requires set { set < length self.old }
-        requires some { 0 < from }
-        requires there { from < length self.old }
-        requires b { b < length self.old }
-        ensures grown { Grown self.old self.new }
-        ensures fewer { IfOk result (λ r. r.1 < from) }
-        ensures made { IfOk result (λ r. r.0 < length self.new) }
-        ensures set { IfOk result (λ r. either_bars (bars_of self.new r.0) (common_bars (bars_of self.old r.1) (bars_of self.old b))
-            ≡ either_bars (bars_of self.old set) (common_bars (bars_of self.old from) (bars_of self.old b))) }
-    {
-        let node = self.node(from);
-        let (number, rest) = (node.number, node.rest);
-        if !self.has(b, &node.name) {
-            return Ok((set, rest));
-        }
-        let name = node.name.copy(self.alloc)?;
-        let made = self.with(set, &name, number)?;
-        Ok((made, rest))
+        let made = self.sets.either(a, b)?;
+        Ok(made)
     }
 
     /// The names of both sets. The one error is want of memory.
     pub(crate) fn common(&mut self, a: usize, b: usize) -> Result<usize, AllocError>
-        requires a { a < length self.old }
-        requires b { b < length self.old }
+        requires a { a < set_count self.old }
+        requires b { b < set_count self.old }
         ensures grown { Grown self.old self.new }
-        ensures set { IfOk result (λ r. (r < length self.new) × (bars_of self.new r ≡ common_bars (bars_of self.old a) (bars_of self.old b))) }
+        ensures set { IfOk result (λ r. (r < set_count self.new) × (bars_of self.new r ≡ common_bars (bars_of self.old a) (bars_of self.old b))) }
     {
-        let _count = self.count();
-        if a == b {
-            return Ok(a);
-        }
-        if b == 0 {
-            return Ok(0);
-        }
-        let mut set = 0;
-        let mut from = a;
-        while from > 0 {
-            let (more, rest) = self.with_common_of(set, from, b)?;
-            set = more;
-            from = rest;
-        }
-        Ok(set)
+        let made = self.sets.common(a, b)?;
+        Ok(made)
     }
 }

@@ -1,13 +1,13 @@
 //! The turns of the worklist (ISO C, 6.10.3.4).
 
 ghost use Rattle.std.specs.Prelude.{◌≡◌, ◌+◌, ◌*◌, ◌-◌, ◌<◌, ◌≤◌, ◌++◌, ◌∷◌, [], List, ℕ, IfOk, IfSome, OnOk, Some, None, length, map, reverse, option_map, Option, true, false, codes};
-ghost use Rattle.c_macro.specs.Bodies.{spaced_as, add_bars, parts_of, object_text};
+ghost use Rattle.c_macro.specs.Bodies.{spaced_as, add_bars, parts_of, object_text, joined, items};
 ghost use Rattle.c_macro.specs.Marked.{with_bar, Marked};
 ghost use Rattle.c_macro.specs.Expansion.{macro_at, Outcome, most_units, look_macro, look, Put, Object};
 ghost use Rattle.c_macro.specs.MacroData.{Macro};
 ghost use Rattle.c_macro.specs.Directive.{all_params, is_punct};
 ghost use Rattle.c_macro.specs.Calls.{commas_of};
-ghost use Rattle.c_macro.specs.SetData.{Grown, SetTable, bars_of};
+ghost use Rattle.c_macro.specs.SetData.{set_count, Grown, SetTable, bars_of};
 ghost use Rattle.c_macro.specs.Table.{defs_of};
 ghost use Rattle.c_macro.specs.Turns.{Frame, frame_text};
 ghost use Rattle.c_macro.specs.Pending.{mark, marks, KnownAll, KnownTasks, KnownArgs, args_data, task_data, tasks_data, part_data};
@@ -15,15 +15,15 @@ ghost use Rattle.c_macro.specs.Worklist.{frame_of, frames_of, KnownOpen, KnownMa
 ghost use Rattle.c_macro.specs.declared.turn.Turn.TheVariants as turn;
 
 use crate::collect::take_call;
-use crate::def::Def;
 use crate::defs::Defs;
 use crate::machine::{fit, macro_at, todos_of};
-use crate::part::{Part, parts};
+use crate::part::Part;
 use crate::pend::{Given, Pend, Todo};
 use crate::place::place;
+use crate::ready::Ready;
 use crate::row::{Pending, Row};
 use crate::sets::Sets;
-use crate::text::text;
+use crate::text::{are_joined, least_count, text};
 use crate::tokens::is_punct;
 use edt_base::{Rule, Text};
 use std::alloc::{AllocError, Global};
@@ -36,8 +36,8 @@ const MOST_UNITS: u64 = 67_108_864;
 #[derive(Drop)]
 pub(crate) struct Open<'a> {
     name: Pend,
-    def: &'a Def,
-    parts: Vec<Part<'a>>,
+    def: &'a Ready,
+    parts: &'a [Part],
     last: Pend,
     rest: Pending,
     out: Vec<Pend>,
@@ -73,7 +73,7 @@ pub(crate) enum Turn<'a> {
 /// Puts a token out.
 fn put<'a>(machine: &mut Machine<'a>, tok: Pend) -> Result<Turn<'a>, AllocError>
     requires known { KnownMachine machine.old }
-    requires tok { tok.set < length machine.old.sets }
+    requires tok { tok.set < set_count machine.old.sets }
     ensures { IfOk result (λ r. (d : List ℕ → Option Macro) → look d (mark machine.old.sets tok ∷ marks machine.old.sets (reverse machine.old.pend)) ≡ Put (mark machine.old.sets tok) (marks machine.old.sets (reverse machine.old.pend))
         → Turned d machine.new r (LevelEnds d machine.old (mark machine.old.sets tok ∷ marks machine.old.sets (reverse machine.old.pend))) (turn_weight machine.old turn.Level + 2)) }
 {
@@ -92,7 +92,6 @@ fn is_above(units: u64, count: usize) -> bool
 
 /// Puts a text in the place of a name, with the names of a set and the name itself barred.
 fn put_in_place<'a>(
-    defs: &Defs,
     machine: &mut Machine<'a>,
     text: Option<Vec<Pend>>,
     name: &Pend,
@@ -100,7 +99,7 @@ fn put_in_place<'a>(
 ) -> Result<Turn<'a>, AllocError>
     requires known { KnownMachine machine.old }
     requires text { IfSome text (λ v. KnownAll machine.old.sets v.items) }
-    requires set { set < length machine.old.sets }
+    requires set { set < set_count machine.old.sets }
     ensures { IfOk result (λ r. (d : List ℕ → Option Macro) → Turned d machine.new r
         (TextUpTo d (frames_of machine.old.sets machine.old.opens.items)
         (option_map (λ v. spaced_as name.now.tok.spaced (add_bars (with_bar (bars_of machine.old.sets set) name.now.tok.spell) (marks machine.old.sets v.items))) text)
@@ -114,9 +113,7 @@ fn put_in_place<'a>(
     if is_above(machine.units, count) {
         return Ok(Turn::Refused(Rule::C7));
     }
-    let bars = machine
-        .sets
-        .with(set, &name.tok.spell, defs.number(&name.tok.spell))?;
+    let bars = machine.sets.with(set, &name.tok.spell)?;
     place(
         &mut machine.sets,
         &mut machine.pend,
@@ -131,26 +128,45 @@ fn put_in_place<'a>(
 /// Puts an object-like macro's text in the place of its name.
 fn replace_object<'a>(
     alloc: Global,
-    defs: &'a Defs,
     machine: &mut Machine<'a>,
     tok: Pend,
-    def: &'a Def,
+    def: &'a Ready,
 ) -> Result<Turn<'a>, AllocError>
     requires known { KnownMachine machine.old }
-    requires tok { tok.set < length machine.old.sets }
+    requires tok { tok.set < set_count machine.old.sets }
+    requires object { def.now.params ≡ None }
     ensures { IfOk result (λ r. (d : List ℕ → Option Macro) → look d (mark machine.old.sets tok ∷ marks machine.old.sets (reverse machine.old.pend)) ≡ Object (mark machine.old.sets tok) def.now (marks machine.old.sets (reverse machine.old.pend))
         → Turned d machine.new r (LevelEnds d machine.old (mark machine.old.sets tok ∷ marks machine.old.sets (reverse machine.old.pend))) (turn_weight machine.old turn.Level + 2)) }
 {
-    let parts = parts(alloc, false, &[], false, def.body.as_slice())?;
-    let text = text(alloc, &mut machine.sets, parts.as_slice(), &[])?;
-    let turn = put_in_place(defs, machine, text, &tok, tok.set)?;
+    let text = text(alloc, &mut machine.sets, def.parts(), &[])?;
+    let turn = put_in_place(machine, text, &tok, tok.set)?;
     Ok(turn)
 }
 
-/// Goes on with a call whose arguments are prepared: puts its text in its place.
+/// Refuses a call whose text is above the limit, if each of its joins makes a token.
+fn refuse_call<'a>(
+    alloc: Global,
+    machine: &mut Machine<'a>,
+    call: &Open<'a>,
+    least: usize,
+) -> Result<Turn<'a>, AllocError>
+    requires known { KnownMachine machine.old }
+    requires call { KnownOpen machine.old.sets call.now }
+    requires done { call.now.todo.items ≡ [] }
+    requires least { (ts : List Marked) → joined (items (map part_data call.now.parts.now) (args_data machine.old.sets call.now.done.items)) ≡ Some ts → least ≤ length ts }
+    requires above { most_units < machine.old.units + 1 + least }
+    ensures { IfOk result (λ r. (d : List ℕ → Option Macro) → Turned d machine.new r (TurnUpTo d machine.old (turn.Call call.now)) (turn_weight machine.old (turn.Call call.now))) }
+{
+    if are_joined(alloc, &mut machine.sets, call.parts, call.done.as_slice())? {
+        return Ok(Turn::Refused(Rule::C7));
+    }
+    Ok(Turn::Refused(Rule::C4))
+}
+
+/// Goes on with a call whose arguments are prepared: puts its text in its place. A text that is above
+/// the limit is never made.
 fn finish_call<'a>(
     alloc: Global,
-    defs: &'a Defs,
     machine: &mut Machine<'a>,
     call: Open<'a>,
 ) -> Result<Turn<'a>, AllocError>
@@ -159,16 +175,18 @@ fn finish_call<'a>(
     requires done { call.todo.items ≡ [] }
     ensures { IfOk result (λ r. (d : List ℕ → Option Macro) → Turned d machine.new r (TurnUpTo d machine.old (turn.Call call.entry)) (turn_weight machine.old (turn.Call call.entry))) }
 {
+    let parts = call.parts;
+    let args = call.done.as_slice();
+    let least = least_count(parts, args);
+    if is_above(machine.units, least) {
+        let turn = refuse_call(alloc, machine, &call, least)?;
+        return Ok(turn);
+    }
     let set = machine.sets.common(call.name.set, call.last.set)?;
-    let text = text(
-        alloc,
-        &mut machine.sets,
-        call.parts.as_slice(),
-        call.done.as_slice(),
-    )?;
+    let text = text(alloc, &mut machine.sets, parts, args)?;
     machine.pend = call.rest;
     machine.out = call.out;
-    let turn = put_in_place(defs, machine, text, &call.name, set)?;
+    let turn = put_in_place(machine, text, &call.name, set)?;
     Ok(turn)
 }
 
@@ -242,30 +260,29 @@ fn open_call<'a>(
     alloc: Global,
     machine: &mut Machine<'a>,
     tok: Pend,
-    def: &'a Def,
+    def: &'a Ready,
     names: &'a [Text],
 ) -> Result<Turn<'a>, AllocError>
     requires known { KnownMachine machine.old }
-    requires tok { tok.set < length machine.old.sets }
+    requires tok { tok.set < set_count machine.old.sets }
     requires names { def.now.params ≡ Some names.now }
     ensures { IfOk result (λ r. (d : List ℕ → Option Macro) (bracket : Marked) → is_punct (codes "(") bracket.tok ≡ true → macro_at d (mark machine.old.sets tok) ≡ Some def.now
         → Turned d machine.new r (LevelEnds d machine.old (mark machine.old.sets tok ∷ bracket ∷ marks machine.old.sets (reverse machine.old.pend))) (turn_weight machine.old turn.Level + 4)) }
 {
-    let variadic = def.variadic;
+    let variadic = def.is_variadic();
     let Some(taken) = take_call(alloc, &mut machine.pend, commas_of(names, variadic))? else {
         return Ok(Turn::Refused(Rule::C2));
     };
     let Some(args) = fit(alloc, names, variadic, taken.args)? else {
         return Ok(Turn::Refused(Rule::C3));
     };
-    let parts = parts(alloc, true, names, variadic, def.body.as_slice())?;
-    let todo = todos_of(alloc, parts.as_slice(), args)?;
+    let todo = todos_of(alloc, def.needs(), args)?;
     let rest = mem::replace(&mut machine.pend, Pending::none(alloc));
     let out = mem::replace(&mut machine.out, Vec::new(alloc));
     Ok(Turn::Call(Open {
         name: tok,
         def,
-        parts,
+        parts: def.parts(),
         last: taken.last,
         rest,
         out,
@@ -280,11 +297,11 @@ fn call_or_put<'a>(
     alloc: Global,
     machine: &mut Machine<'a>,
     tok: Pend,
-    def: &'a Def,
+    def: &'a Ready,
     names: &'a [Text],
 ) -> Result<Turn<'a>, AllocError>
     requires known { KnownMachine machine.old }
-    requires tok { tok.set < length machine.old.sets }
+    requires tok { tok.set < set_count machine.old.sets }
     requires names { def.now.params ≡ Some names.now }
     ensures { IfOk result (λ r. (d : List ℕ → Option Macro) → macro_at d (mark machine.old.sets tok) ≡ Some def.now
         → Turned d machine.new r (LevelEnds d machine.old (mark machine.old.sets tok ∷ marks machine.old.sets (reverse machine.old.pend))) (turn_weight machine.old turn.Level + 2)) }
@@ -310,7 +327,7 @@ fn look_at<'a>(
     tok: Pend,
 ) -> Result<Turn<'a>, AllocError>
     requires known { KnownMachine machine.old }
-    requires tok { tok.set < length machine.old.sets }
+    requires tok { tok.set < set_count machine.old.sets }
     ensures { IfOk result (λ r. Turned (defs_of defs.now) machine.new r
         (LevelEnds (defs_of defs.now) machine.old (mark machine.old.sets tok ∷ marks machine.old.sets (reverse machine.old.pend))) (turn_weight machine.old turn.Level + 2)) }
 {
@@ -318,13 +335,13 @@ fn look_at<'a>(
         let turn = put(machine, tok)?;
         return Ok(turn);
     };
-    match &def.params {
+    match def.params() {
         None => {
-            let turn = replace_object(alloc, defs, machine, tok, def)?;
+            let turn = replace_object(alloc, machine, tok, def)?;
             Ok(turn)
         }
         Some(names) => {
-            let turn = call_or_put(alloc, machine, tok, def, names.as_slice())?;
+            let turn = call_or_put(alloc, machine, tok, def, names)?;
             Ok(turn)
         }
     }
@@ -360,7 +377,7 @@ pub(crate) fn go_on<'a>(
 {
     let mut call = call;
     let Some(arg) = call.todo.pop() else {
-        let turn = finish_call(alloc, defs, machine, call)?;
+        let turn = finish_call(alloc, machine, call)?;
         return Ok(turn);
     };
     if arg.wanted {

@@ -4,3 +4,6 @@ pub mod LexedLaws
 pub mod LineLaws
 pub mod Writes
 pub mod OneList
+pub mod CountLaws
+pub mod EndLaws
+pub mod WordLaws

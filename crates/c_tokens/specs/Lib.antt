@@ -1,6 +1,7 @@
 pub mod Bytes
 pub mod Grammar
 pub mod Joining
+pub mod Laws
 pub mod LineData
 pub mod Lexed
 pub mod Lines

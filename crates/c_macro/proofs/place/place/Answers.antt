@@ -1,4 +1,5 @@
 use Rattle.std.proofs.Common.{rules}
+use Rattle.c_macro.proofs.SetLaws.{grown_trans}
 use Rattle.c_macro.proofs.PlaceLaws.{placing_starts, placing_goes, placing_ends, last_known, Placed}
 use Rattle.c_macro.proofs.place.place.Goals as goal
 
@@ -18,3 +19,9 @@ pub returns : goal.returns
 returns c =
     let p : Placed c.args.sets.now c.loop-tok.sets c.args.bars c.args.spaced c.args.pend.now c.loop-tok.pend c.args.toks.items = placing_ends _ _ _ _ _ _ _ _ c.loop-tok.invariant (search rules) in
     record { grown = p.grown; known = p.known; is = p.is; size = p.size }
+
+pub returns-in_err-set-clause-grown : goal.returns-in_err-set-clause-grown
+returns-in_err-set-clause-grown c = grown_trans c.args.sets.now c.loop-tok.sets c.either.new.self c.loop-tok.invariant.grown c.in_err-set.ensures.grown
+
+pub returns-in_err-push-clause-grown : goal.returns-in_err-push-clause-grown
+returns-in_err-push-clause-grown c = grown_trans c.args.sets.now c.loop-tok.sets c.either.new.self c.loop-tok.invariant.grown c.in_ok-set.ensures.grown

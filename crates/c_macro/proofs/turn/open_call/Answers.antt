@@ -1,9 +1,8 @@
-use Rattle.std.proofs.Common.{◌≡◌, ◌+◌, [], Bool, ℕ, Option, refl, sym, ◌∙◌, ap, subst, true, false, map, List, reverse, length}
-use Rattle.c_tokens.specs.declared.tok.Tok.{Tok}
+use Rattle.std.proofs.Common.{◌≡◌, ◌+◌, ◌≤◌, arith, Some, [], Bool, ℕ, Option, refl, sym, ◌∙◌, ap, subst, true, false, map, List, reverse, length}
+use Rattle.c_macro.specs.MacroData.{Macro}
 use Rattle.c_macro.specs.declared.pend.Pend.{Pend}
-use Rattle.c_macro.specs.declared.part.Part.{Part}
-use Rattle.c_macro.specs.Bodies.{parts, tasks}
-use Rattle.c_macro.specs.Directive.{all_params}
+use Rattle.c_macro.specs.Bodies.{Part, parts_of, tasks}
+use Rattle.c_macro.specs.Needing.{args_count, count_of}
 use Rattle.c_macro.specs.Calls.{commas_of, closed, fitted}
 use Rattle.c_macro.specs.Pending.{part_data, marks, KnownAll}
 use Rattle.c_macro.specs.Collecting.{taken_data, rows_data, rows_size}
@@ -13,14 +12,14 @@ use Rattle.c_macro.proofs.turn.open_call.Goals as goal
 pub returns-in_default : goal.returns-in_default
 returns-in_default c = λ d b h e.
     let s = c.args.machine.now.sets in
-    let n : c.commas_of.result ≡ commas_of c.args.names.now c.args.def.now.variadic = c.commas_of.ensures ∙ ap (commas_of c.args.names.now) (ap (λ m. m.variadic) c.def.view_is) in
+    let n : c.commas_of.result ≡ commas_of c.args.names.now c.args.def.now.variadic = c.commas_of.ensures ∙ ap (commas_of c.args.names.now) c.is_variadic-variadic.ensures in
     let f = rw c.in_default.is at c.in_ok-taken.ensures.is in
     unclosed_turned d c.args.machine.now _ c.args.tok b c.args.def.now c.args.names.now e c.requires.names h (f s ∙ ap (λ (x : Option ℕ). closed x 0 (marks s (reverse c.args.machine.now.pend))) n)
 
 pub returns-in_default-2 : goal.returns-in_default-2
 returns-in_default-2 c = λ d b h e.
     let s = c.args.machine.now.sets in
-    let v : c.def.inside.variadic ≡ c.args.def.now.variadic = ap (λ m. m.variadic) c.def.view_is in
+    let v : c.is_variadic-variadic.result ≡ c.args.def.now.variadic = c.is_variadic-variadic.ensures in
     let n : c.commas_of.result ≡ commas_of c.args.names.now c.args.def.now.variadic = c.commas_of.ensures ∙ ap (commas_of c.args.names.now) v in
     let f = rw c.in-Some.is at c.in_ok-taken.ensures.is in
     let g = rw c.in_default-2.is at c.in_ok-args.ensures.is in
@@ -30,13 +29,17 @@ returns-in_default-2 c = λ d b h e.
 pub returns : goal.returns
 returns c = λ d b h e.
     let s = c.args.machine.now.sets in
-    let v : c.def.inside.variadic ≡ c.args.def.now.variadic = ap (λ m. m.variadic) c.def.view_is in
+    let v : c.is_variadic-variadic.result ≡ c.args.def.now.variadic = c.is_variadic-variadic.ensures in
     let n : c.commas_of.result ≡ commas_of c.args.names.now c.args.def.now.variadic = c.commas_of.ensures ∙ ap (commas_of c.args.names.now) v in
     let f = rw c.in-Some.is at c.in_ok-taken.ensures.is in
     let g = rw c.in-Some-2.is at c.in_ok-args.ensures.is in
-    let body : c.as_slice.result.now ≡ c.args.def.now.body = c.as_slice.ensures.value ∙ ap (λ m. m.body) c.def.view_is in
-    let ps = c.in_ok-parts.ensures ∙ (ap (λ (x : Bool). parts true (all_params c.args.names.now x) false c.as_slice.result.now) v ∙ ap (λ (x : List Tok). parts true (all_params c.args.names.now c.args.def.now.variadic) false x) body) in
-    let ts = c.in_ok-todo.ensures.is s ∙ ap (λ (x : List Part). tasks (map part_data x) 0 (rows_data s c.in-Some-2.args.items)) c.as_slice-2.ensures.value in
+    let m : Macro = c.args.def.now in
+    let fits : length c.in-Some-2.args.items ≤ args_count m =
+    let e = rw c.in-Some-2.is at c.in_ok-args.ensures.count in
+    let a : count_of (Some c.args.names.now) c.is_variadic-variadic.result ≡ args_count m = ap (count_of (Some c.args.names.now)) v ∙ ap (λ (o : Option (List (List ℕ))). count_of o m.variadic) (sym c.requires.names) in
+    omega (arith, e ∙ a) in
+    let ps = c.parts.ensures ∙ ap (parts_of m) c.requires.names in
+    let ts = c.in_ok-todo.ensures.is s (parts_of m m.params) (args_count m) c.needs.ensures fits ∙ ap (λ (x : List Part). tasks x 0 (rows_data s c.in-Some-2.args.items)) (sym c.parts.ensures) in
     let known = rw c.in-Some.is at c.in_ok-taken.ensures.known in
     let kt = known s c.requires.known.pend in
     let rows = rw c.in-Some-2.is at c.in_ok-args.ensures.known in

@@ -1,6 +1,5 @@
-use Rattle.std.proofs.Common.{◌≡◌, ◌∙◌, ap, [], false, map, List}
-use Rattle.c_tokens.specs.declared.tok.Tok.{Tok}
-use Rattle.c_macro.specs.Bodies.{joined, items, parts, Part}
+use Rattle.std.proofs.Common.{◌≡◌, ◌∙◌, ap, [], None, map, List}
+use Rattle.c_macro.specs.Bodies.{joined, items, parts_of, Part}
 use Rattle.c_macro.specs.SetData.{bars_of}
 use Rattle.c_macro.specs.Pending.{part_data}
 use Rattle.c_macro.proofs.SetLaws.{bars_grow}
@@ -12,9 +11,7 @@ put_in_place-requires-clause-known c = machine_grows c.args.machine.now c.text.n
 
 pub returns : goal.returns
 returns c = λ d l.
-    let body : c.as_slice.result.now ≡ c.args.def.now.body = c.as_slice.ensures.value ∙ ap (λ m. m.body) c.def.view_is in
-    let ps : map part_data c.as_slice-2.result.now ≡ parts false [] false c.args.def.now.body =
-    ap (map part_data) c.as_slice-2.ensures.value ∙ (c.in_ok-parts.ensures ∙ ap (λ (b : List Tok). parts false [] false b) body) in
+    let ps : map part_data c.parts.result.now ≡ parts_of c.args.def.now None = c.parts.ensures ∙ ap (parts_of c.args.def.now) c.requires.object in
     object_turned d c.args.machine.now c.put_in_place.new.machine c.text.new.sets c.in_ok-turn.turn c.args.tok c.args.def.now _ c.requires.known c.requires.tok c.in_ok-text.ensures.grown
     (placed_text c.args.machine.now.sets c.text.new.sets (λ v. v.items) c.args.tok c.args.tok.set (bars_of c.args.machine.now.sets c.args.tok.set) c.in_ok-text.text _ (c.in_ok-text.ensures.is ∙ ap (λ (x : List Part). joined (items x [])) ps)
     (bars_grow c.args.machine.now.sets c.text.new.sets c.args.tok.set c.in_ok-text.ensures.grown c.requires.tok))

@@ -1,16 +1,22 @@
-use Rattle.std.proofs.Common.{◌≡◌, [], arith, ◌∙◌, ap}
-use Rattle.c_macro.specs.SetData.{names_in}
-use Rattle.c_macro.proofs.SetLaws.{names_grow}
-use Rattle.c_macro.proofs.BarLaws.{common_goes, common_ends}
+use Rattle.std.proofs.Common.{refl, length, ◌+◌}
+use Rattle.c_macro.specs.SetData.{SetTable}
+use Rattle.c_macro.proofs.SetLaws.{sets_grow, numbered_more, common_is}
 use Rattle.c_macro.proofs.sets.Sets.common.Goals as goal
 
-pub loop-from-preserved : goal.loop-from-preserved
-loop-from-preserved c =
-    common_goes _ _ _ _ _ _ _ _ _ c.loop-from.invariant c.requires.b c.in_ok-more.ensures.grown c.in_ok-more.ensures.made c.in_ok-more.ensures.fewer c.in_ok-more.ensures.set
+pub invariant_of-self : goal.invariant_of-self
+invariant_of-self c = numbered_more c.self.inside.numbers.entries c.self.inside.sets c.common.new.self c.self.invariant (c.in_err-made.ensures.below (length c.self.inside.numbers.entries + 1))
+
+pub invariant_of-self-2 : goal.invariant_of-self-2
+invariant_of-self-2 c = numbered_more c.self.inside.numbers.entries c.self.inside.sets c.common.new.self c.self.invariant (c.in_ok-made.ensures.below (length c.self.inside.numbers.entries + 1))
+
+pub returns-in_err-made-clause-grown : goal.returns-in_err-made-clause-grown
+returns-in_err-made-clause-grown c = rw (← c.self.view_is) (sets_grow _ _ c.in_err-made.ensures.extends refl)
+
+pub returns-clause-grown : goal.returns-clause-grown
+returns-clause-grown c = rw (← c.self.view_is) (sets_grow _ _ c.in_ok-made.ensures.extends refl)
 
 pub returns-clause-set : goal.returns-clause-set
 returns-clause-set c =
-    let zero_is : c.loop-from.from ≡ 0 = omega arith in
-    let none : names_in c.loop-from.self 0 ≡ [] = names_grow _ _ 0 c.loop-from.invariant.grown (omega (arith, c.requires.a)) ∙ c.count-count.ensures.empty in
-    let none1 : names_in c.loop-from.self c.loop-from.from ≡ [] = ap (names_in c.loop-from.self) zero_is ∙ none in
-    (c.loop-from.invariant.set_there, common_ends _ _ _ _ _ _ c.loop-from.invariant none1)
+    let s : SetTable = record { numbers = c.self.inside.numbers.entries; nodes = c.self.inside.sets } in
+    let t : SetTable = record { numbers = c.self.inside.numbers.entries; nodes = c.common.new.self } in
+    rw (← c.self.view_is) (c.in_ok-made.ensures.set.0, common_is s t c.args.a c.args.b c.in_ok-made.made refl c.in_ok-made.ensures.set.1)

@@ -1,8 +1,0 @@
-use Rattle.c_macro.specs.SetData.{MakesCommon}
-use Rattle.c_macro.proofs.sets.Sets.common.Given as goal
-
-abbrev pub invariant-loop-from : goal.invariant-loop-from
-invariant-loop-from l = MakesCommon l.initial.self l.self l.a l.b l.set l.from
-
-abbrev pub decreases-loop-from : goal.decreases-loop-from
-decreases-loop-from l = l.from
