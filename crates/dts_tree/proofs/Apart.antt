@@ -17,9 +17,10 @@ Apart (x ∷ xs) = (Member x xs → ⊥) × Apart xs
 
 pub apart_append : {X : Type 0} (xs ys : List X) → Apart xs → Apart ys → ((x : X) → Member x xs → Member x ys → ⊥) → Apart (xs ++ ys)
 apart_append [] ys a b d = b
-apart_append (x ∷ xs) ys a b d =
-    (λ m. elim (member_cases x xs ys m) [ inl n ↦ a.0 n | inr n ↦ d x (inl refl) n ],
-    apart_append xs ys a.1 b (λ y m n. d y (inr m) n))
+apart_append (x ∷ xs) ys a b d = (
+  λ m. elim (member_cases x xs ys m) [ inl n ↦ a.0 n | inr n ↦ d x (inl refl) n ],
+  apart_append xs ys a.1 b (λ y m n. d y (inr m) n),
+)
 
 filter_by : {X : Type 0} (b : Bool) (p : X → Bool) (x : X) (xs : List X) → (Member x xs → ⊥) → Apart (filter p xs) → Apart (cond b (x ∷ filter p xs) (filter p xs))
 filter_by true p x xs n a = (λ m. n (member_of_filter p xs x m).0, a)
@@ -34,8 +35,9 @@ apart_filter p (x ∷ xs) a = filter_by (p x) p x xs a.0 (apart_filter p xs a.1)
 pub flat_member : {X Y : Type 0} (f : X → List Y) (xs : List X) (y : Y) → Member y (flat_map f xs) → (x : X) × Member x xs × Member y (f x)
 flat_member f [] y m = absurd m
 flat_member f (x ∷ xs) y m = elim (member_cases y (f x) (flat_map f xs) m) [
-  inl n ↦ (x, inl refl, n)
-  | inr n ↦ let r = flat_member f xs y n in (r.0, inr r.1, r.2) ]
+  | inl n ↦ (x, inl refl, n)
+  | inr n ↦ let r = flat_member f xs y n in (r.0, inr r.1, r.2)
+]
 
 pub member_flat : {X Y : Type 0} (f : X → List Y) (xs : List X) (x : X) (y : Y) → Member x xs → Member y (f x) → Member y (flat_map f xs)
 member_flat f [] x y m n = absurd m
@@ -60,19 +62,21 @@ apart_shown f (x ∷ xs) a = (λ m. a.0 (member_in_map f xs x m), apart_shown f 
 -- what is apart is shown apart, where what is shown tells things of the list apart
 pub shown_apart : {X Y : Type 0} (f : X → Y) (xs : List X) → Apart xs → ((x y : X) → Member x xs → Member y xs → f x ≡ f y → x ≡ y) → Apart (map f xs)
 shown_apart f [] a h = tt
-shown_apart f (x ∷ xs) a h =
-    (λ m.
-    let r = Rattle.dts_tree.proofs.Lists.member_of_map f xs (f x) m in
-    a.0 (subst (λ y. Member y xs) (h r.0 x (inr r.1) (inl refl) r.2) r.1),
-    shown_apart f xs a.1 (λ y z m n. h y z (inr m) (inr n)))
+shown_apart f (x ∷ xs) a h = (
+  λ m.
+      let r = Rattle.dts_tree.proofs.Lists.member_of_map f xs (f x) m in
+      a.0 (subst (λ y. Member y xs) (h r.0 x (inr r.1) (inl refl) r.2) r.1),
+  shown_apart f xs a.1 (λ y z m n. h y z (inr m) (inr n)),
+)
 
 -- ---- nodes and properties that are there
 
 new_by : (b : Bool) (x : Place) (xs : List Place) → list_any (place_eq x) xs ≡ b → Apart xs → Apart (cond b xs (xs ++ x ∷ []))
 new_by true x xs h a = a
 new_by false x xs h a = apart_append xs (x ∷ []) a (λ m. m, tt) (λ y m n. elim n [
-  inl e ↦ true≢false (sym (any_give (place_eq x) xs x (subst (λ z. Member z xs) (sym e) m) (place_self x)) ∙ h)
-  | inr k ↦ k ])
+  | inl e ↦ true≢false (sym (any_give (place_eq x) xs x (subst (λ z. Member z xs) (sym e) m) (place_self x)) ∙ h)
+  | inr k ↦ k
+])
 
 new_all : (ys acc : List Place) → Apart acc → Apart (fold (with_new place_eq) acc ys)
 new_all [] acc a = a

@@ -33,18 +33,20 @@ text_enough : (n m : ℕ) (spots : List Spot) → ParentsRise spots → (i : ℕ
 text_enough zero m spots r i a b = sym (root_text m spots i (omega arith))
 text_enough (suc n) zero spots r i a b = root_text (suc n) spots i (omega arith)
 text_enough (suc n) (suc m) spots r i a b = elim (cases_eq i 0) [
-  inl z ↦ root_text (suc n) spots i z ∙ sym (root_text (suc m) spots i z)
+  | inl z ↦ root_text (suc n) spots i z ∙ sym (root_text (suc m) spots i z)
   | inr d ↦
-    let up : slot_parent spots i < i = parent_low spots i r (omega arith) in
-    text_on n spots i d
-    ∙ (ap (λ t. with_slash spots t i) (text_enough n m spots r (slot_parent spots i) (omega arith) (omega arith)) ∙ sym (text_on m spots i d)) ]
+      let up : slot_parent spots i < i = parent_low spots i r (omega arith) in
+      text_on n spots i d
+      ∙ (ap (λ t. with_slash spots t i) (text_enough n m spots r (slot_parent spots i) (omega arith) (omega arith)) ∙ sym (text_on m spots i d))
+]
 
 up_low : (spots : List Spot) (n i : ℕ) → length spots ≡ suc n → ParentsRise spots → (i ≡ 0 → ⊥) → slot_parent spots i ≤ n
 up_low spots n i e r d = elim (cases_lt i (length spots)) [
-  inl l ↦ let up : slot_parent spots i < i = parent_low spots i r (omega arith) in omega arith
+  | inl l ↦ let up : slot_parent spots i < i = parent_low spots i r (omega arith) in omega arith
   | inr l ↦
-    let none : slot_parent spots i ≡ 0 = ap (λ o. option_map_or (λ (s : Spot). s.parent) o 0) (slice_get_past spots i l) in
-    omega arith ]
+      let none : slot_parent spots i ≡ 0 = ap (λ o. option_map_or (λ (s : Spot). s.parent) o 0) (slice_get_past spots i l) in
+      omega arith
+]
 
 text_by : (n : ℕ) (spots : List Spot) → length spots ≡ n → ParentsRise spots → (i : ℕ) → (i ≡ 0 → ⊥) → slot_text n spots i ≡ with_slash spots (slot_text n spots (slot_parent spots i)) i
 text_by zero spots e r i d = let some : 0 < length spots = r.some in absurd (omega arith)
@@ -80,10 +82,11 @@ last_alive_is gone (i ∷ is) o = alive_by (is_gone gone i) gone o i is (last_al
 top_by : (gone : List Bool) (l : LabelsData) (o : Option ℕ) → top_at (map (last_alive gone None) l.stacks) o ≡ last_of (alive_in gone (stack_at l o))
 top_by gone l None = refl
 top_by gone l (Some n) = elim (cases_lt n (length l.stacks)) [
-  inl w ↦ get_or-map (last_alive gone None) l.stacks n [] None w ∙ last_alive_is gone (get_or l.stacks n []) None
+  | inl w ↦ get_or-map (last_alive gone None) l.stacks n [] None w ∙ last_alive_is gone (get_or l.stacks n []) None
   | inr w ↦
-    get_or_past (map (last_alive gone None) l.stacks) n None (subst (λ m. m ≤ n) (sym (length-map l.stacks (last_alive gone None))) w)
-    ∙ ap (λ is. last_of (alive_in gone is)) (sym (get_or_past l.stacks n [] w)) ]
+      get_or_past (map (last_alive gone None) l.stacks) n None (subst (λ m. m ≤ n) (sym (length-map l.stacks (last_alive gone None))) w)
+      ∙ ap (λ is. last_of (alive_in gone is)) (sym (get_or_past l.stacks n [] w))
+]
 
 -- the last slot of a label's stack that is there
 pub tops_named : (r : ReaderData) (k : List ℕ) → top_at (tops_of r) (named k r.labels.numbers) ≡ last_of (alive_in r.arena.gone (stack_of r.labels k))

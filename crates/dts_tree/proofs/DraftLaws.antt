@@ -103,13 +103,14 @@ above us ps a [] q i j h g k =
     let e : i ≡ j = same_index ps a.apart i j [] g (subst (λ x. slice_get ps j ≡ Some x) same k) in
     subst (λ x. IsAbove (drafts_of us ps) j x) (sym e) (itself j)
 above us ps a (s ∷ v) q i j h g k = elim (within_cases q s v h) [
-  inl e ↦
-    let z : i ≡ j = same_index ps a.apart i j (s ∷ v) g (subst (λ x. slice_get ps j ≡ Some x) e k) in
-    subst (λ x. IsAbove (drafts_of us ps) j x) (sym z) (itself j)
+  | inl e ↦
+      let z : i ≡ j = same_index ps a.apart i j (s ∷ v) g (subst (λ x. slice_get ps j ≡ Some x) e k) in
+      subst (λ x. IsAbove (drafts_of us ps) j x) (sym z) (itself j)
   | inr n ↦
-    let b = a.below s v (member_at ps i (s ∷ v) g) in
-    let up = index_of ps v b.2 in
-    further i up.0 j (node_draft us ps (s ∷ v)) (draw (node_draft us ps) ps i (s ∷ v) g) (numbered ps a.apart up.0 v up.1) (above us ps a v q up.0 j n up.1 k) ]
+      let b = a.below s v (member_at ps i (s ∷ v) g) in
+      let up = index_of ps v b.2 in
+      further i up.0 j (node_draft us ps (s ∷ v)) (draw (node_draft us ps) ps i (s ∷ v) g) (numbered ps a.apart up.0 v up.1) (above us ps a v q up.0 j n up.1 k)
+]
 
 prior : {X : Type 0} (xs : List X) (i : ℕ) (x : X) → slice_get xs (i + 1) ≡ Some x → (y : X) × (slice_get xs i ≡ Some y)
 prior [] i x h = absurd (none-some x h)

@@ -55,15 +55,16 @@ placed_all [] ps first j a l = refl
 placed_all (i ∷ is) ps first j a l =
     placed_all is (set ps i (Some first)) (first + 1) j a.1 (subst (λ n. j < n) (sym (length-set ps i (Some first))) l)
     ∙ elim (cases_eq j i) [
-      inl e ↦
-        let none : position_from (eqb j) (first + 1) is ≡ None = none_from j is (first + 1) (λ m. a.0 (subst (λ k. Member k is) e m)) in
-        let here : get_or (set ps i (Some first)) j None ≡ Some first =
-        subst (λ k. get_or (set ps k (Some first)) j None ≡ Some first) e (get_or-set_same ps j (Some first) None l) in
-        ap (λ o. over o (get_or (set ps i (Some first)) j None)) none
-        ∙ (here ∙ ap (λ b. over (cond b (Some first) (position_from (eqb j) (first + 1) is)) (get_or ps j None)) (sym (eq-eqb j i e)))
+      | inl e ↦
+          let none : position_from (eqb j) (first + 1) is ≡ None = none_from j is (first + 1) (λ m. a.0 (subst (λ k. Member k is) e m)) in
+          let here : get_or (set ps i (Some first)) j None ≡ Some first =
+          subst (λ k. get_or (set ps k (Some first)) j None ≡ Some first) e (get_or-set_same ps j (Some first) None l) in
+          ap (λ o. over o (get_or (set ps i (Some first)) j None)) none
+          ∙ (here ∙ ap (λ b. over (cond b (Some first) (position_from (eqb j) (first + 1) is)) (get_or ps j None)) (sym (eq-eqb j i e)))
       | inr d ↦
-        ap (over (position_from (eqb j) (first + 1) is)) (get_or-set_other ps i j (Some first) None d)
-        ∙ ap (λ b. over (cond b (Some first) (position_from (eqb j) (first + 1) is)) (get_or ps j None)) (sym (ne_eqb j i d)) ]
+          ap (over (position_from (eqb j) (first + 1) is)) (get_or-set_other ps i j (Some first) None d)
+          ∙ ap (λ b. over (cond b (Some first) (position_from (eqb j) (first + 1) is)) (get_or ps j None)) (sym (ne_eqb j i d))
+    ]
 
 shown_from : (places : List Place) (a : ArenaData) → IsShaped a.spots places → IsSound a → (j : ℕ) → is_gone a.gone j ≡ false → (is : List ℕ) (first : ℕ)
     → ((i : ℕ) → Member i is → is_gone a.gone i ≡ false) → position_from (eqb j) first is ≡ position_from (place_eq (place_at places j)) first (map (place_at places) is)
@@ -71,7 +72,7 @@ shown_from places a shape sound j g [] first alive = refl
 shown_from places a shape sound j g (i ∷ is) first alive =
     ap (λ o. cond (eqb j i) (Some first) o) (shown_from places a shape sound j g is (first + 1) (λ k m. alive k (inr m)))
     ∙ ap (λ b. cond b (Some first) (position_from (place_eq (place_at places j)) (first + 1) (map (place_at places) is)))
-      (sym (same_slot a places shape sound j i g (alive i (inl refl))))
+    (sym (same_slot a places shape sound j i g (alive i (inl refl))))
 
 -- the numbers of slots are those of their places
 placed_is : (places : List Place) (a : ArenaData) → IsShaped a.spots places → IsSound a → (slots : List ℕ) → Apart slots
@@ -132,18 +133,19 @@ parent_is spots i l = ap (λ o. option_map_or (λ (s : Spot). s.parent) o 0) (go
 text_by : (n : ℕ) (spots : List Spot) (places : List Place) → IsShaped spots places → (i : ℕ) → i < n → i < length spots → slot_text n spots i ≡ below_text (place_at places i)
 text_by zero spots places shape i m l = absurd (omega arith)
 text_by (suc n) spots places shape i m l = elim (cases_eq i 0) [
-  inl z ↦
-    ap (λ b. cond b [] (with_slash spots (slot_text n spots (slot_parent spots i)) i)) (eq-eqb i 0 z)
-    ∙ ap below_text (sym (ap (place_at places) z ∙ shape.root))
+  | inl z ↦
+      ap (λ b. cond b [] (with_slash spots (slot_text n spots (slot_parent spots i)) i)) (eq-eqb i 0 z)
+      ∙ ap below_text (sym (ap (place_at places) z ∙ shape.root))
   | inr d ↦
-    let p : 0 < i = omega arith in
-    let up : parent_at spots i < i = shape.parents i p l in
-    let rest : slot_text n spots (slot_parent spots i) ≡ below_text (place_at places (parent_at spots i)) =
-    ap (slot_text n spots) (parent_is spots i l) ∙ text_by n spots places shape (parent_at spots i) (omega arith) (omega arith) in
-    ap (λ b. cond b [] (with_slash spots (slot_text n spots (slot_parent spots i)) i)) (ne_eqb i 0 d)
-    ∙ (ap (λ t. with_slash spots t i) rest
-    ∙ (ap (λ x. below_text (place_at places (parent_at spots i)) ++ codes "/" ++ x) (ap (λ o. option_map_or (λ (s : Spot). step_name s.step) o []) (got_spot spots i l))
-    ∙ ap below_text (sym (shape.steps i p l)))) ]
+      let p : 0 < i = omega arith in
+      let up : parent_at spots i < i = shape.parents i p l in
+      let rest : slot_text n spots (slot_parent spots i) ≡ below_text (place_at places (parent_at spots i)) =
+      ap (slot_text n spots) (parent_is spots i l) ∙ text_by n spots places shape (parent_at spots i) (omega arith) (omega arith) in
+      ap (λ b. cond b [] (with_slash spots (slot_text n spots (slot_parent spots i)) i)) (ne_eqb i 0 d)
+      ∙ (ap (λ t. with_slash spots t i) rest
+      ∙ (ap (λ x. below_text (place_at places (parent_at spots i)) ++ codes "/" ++ x) (ap (λ o. option_map_or (λ (s : Spot). step_name s.step) o []) (got_spot spots i l))
+      ∙ ap below_text (sym (shape.steps i p l))))
+]
 
 slash_some : (xs : List ℕ) (b : ℕ) (zs : List ℕ) → or_slash ((xs ++ b ∷ []) ++ zs) ≡ (xs ++ b ∷ []) ++ zs
 slash_some [] b zs = refl
@@ -158,9 +160,10 @@ path_is spots places shape i l = ap or_slash (text_by (length spots) spots place
 
 name_is : (spots : List Spot) (places : List Place) → IsShaped spots places → (i : ℕ) → i < length spots → node_name spots i ≡ name_of (place_at places i)
 name_is spots places shape i l = elim (cases_eq i 0) [
-  inl z ↦ ap (λ b. cond b (codes "/") (slot_name spots i)) (eq-eqb i 0 z) ∙ ap name_of (sym (ap (place_at places) z ∙ shape.root))
+  | inl z ↦ ap (λ b. cond b (codes "/") (slot_name spots i)) (eq-eqb i 0 z) ∙ ap name_of (sym (ap (place_at places) z ∙ shape.root))
   | inr d ↦ let p : 0 < i = omega arith in
-    ap (λ b. cond b (codes "/") (slot_name spots i)) (ne_eqb i 0 d) ∙ named_slot_is spots places shape i p l ]
+      ap (λ b. cond b (codes "/") (slot_name spots i)) (ne_eqb i 0 d) ∙ named_slot_is spots places shape i p l
+]
 
 -- ---- a draft
 
@@ -196,11 +199,12 @@ props_alike places r us numbers ps t same i g =
 up_is : (places : List Place) (a : ArenaData) (numbers : List (Option ℕ)) (ps : List Place) → IsShaped a.spots places → IsSound a → AreNumbers places a numbers ps
     → (i : ℕ) → is_gone a.gone i ≡ false → i < length a.spots → node_parent a.spots numbers i ≡ parent_number ps (place_at places i)
 up_is places a numbers ps shape sound h i g l = elim (cases_eq i 0) [
-  inl z ↦ ap (λ b. cond b None (placed_at numbers (slot_parent a.spots i))) (eq-eqb i 0 z) ∙ ap (parent_number ps) (sym (ap (place_at places) z ∙ shape.root))
+  | inl z ↦ ap (λ b. cond b None (placed_at numbers (slot_parent a.spots i))) (eq-eqb i 0 z) ∙ ap (parent_number ps) (sym (ap (place_at places) z ∙ shape.root))
   | inr d ↦ let p : 0 < i = omega arith in
-    ap (λ b. cond b None (placed_at numbers (slot_parent a.spots i))) (ne_eqb i 0 d)
-    ∙ (ap (placed_at numbers) (parent_is a.spots i l)
-    ∙ (h.at (parent_at a.spots i) (sound.parents i p g) ∙ ap (parent_number ps) (sym (shape.steps i p l)))) ]
+      ap (λ b. cond b None (placed_at numbers (slot_parent a.spots i))) (ne_eqb i 0 d)
+      ∙ (ap (placed_at numbers) (parent_is a.spots i l)
+      ∙ (h.at (parent_at a.spots i) (sound.parents i p g) ∙ ap (parent_number ps) (sym (shape.steps i p l))))
+]
 
 draft_is : (places : List Place) (r : ReaderData) (us : List Deed) (numbers : List (Option ℕ)) (ps : List Place) → IsTied places r.arena r.events r.labels us
     → AreNumbers places r.arena numbers ps → SameNumbers r us numbers ps → (i : ℕ) → is_gone r.arena.gone i ≡ false

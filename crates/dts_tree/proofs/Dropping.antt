@@ -92,11 +92,12 @@ want_by places a marks j (Some i) None shape sound n g l = absurd n
 want_by places a marks j (Some i) (Some q) shape sound n g l =
     let same : place_eq (place_at places j) q ≡ eqb j i = ap (place_eq (place_at places j)) (sym n.1) ∙ same_slot a places shape sound j i g n.0 in
     elim (cases_eq j i) [
-      inl e ↦
-        subst (λ k. get_or (set marks k true) j false ≡ (get_or marks j false || true)) e (get_or-set_same marks j true false l ∙ or_yes (get_or marks j false))
-        ∙ ap (λ b. get_or marks j false || b) (sym (same ∙ eq-eqb j i e))
+      | inl e ↦
+          subst (λ k. get_or (set marks k true) j false ≡ (get_or marks j false || true)) e (get_or-set_same marks j true false l ∙ or_yes (get_or marks j false))
+          ∙ ap (λ b. get_or marks j false || b) (sym (same ∙ eq-eqb j i e))
       | inr d ↦
-        get_or-set_other marks i j true false d ∙ (or_none (get_or marks j false) ∙ ap (λ b. get_or marks j false || b) (sym (same ∙ ne_eqb j i d))) ]
+          get_or-set_other marks i j true false d ∙ (or_none (get_or marks j false) ∙ ap (λ b. get_or marks j false || b) (sym (same ∙ ne_eqb j i d)))
+    ]
 
 want_len : (o : Option ℕ) (marks : List Bool) → length (option_map_or (λ i. set marks i true) o marks) ≡ length marks
 want_len None marks = refl
@@ -161,13 +162,14 @@ stays_keeps places r b t levels j =
     let f : ℕ → Bool = stays_at keep (grown_of r).marks (wanted_slots r) in
     let len : length keep ≡ length r.arena.gone = length-map r.arena.gone not in
     elim (cases_lt j (length keep)) [
-      inl l ↦
-        get_or-map-range_with_len f 0 (length keep) j j false l (let z : 0 + j ≡ j = omega arith in z)
-        ∙ stays_by (is_alive r.arena.gone j) places r b j t levels refl
+      | inl l ↦
+          get_or-map-range_with_len f 0 (length keep) j j false l (let z : 0 + j ≡ j = omega arith in z)
+          ∙ stays_by (is_alive r.arena.gone j) places r b j t levels refl
       | inr l ↦
-        let past : is_gone r.arena.gone j ≡ true = get_or_past r.arena.gone j true (subst (λ m. m ≤ j) len l) in
-        let size : length (staying r) ≡ length keep = length-map (range_with_len 0 (length keep)) f ∙ length_range (length keep) 0 in
-        get_or_past (staying r) j false (subst (λ m. m ≤ j) (sym size) l) ∙ ap (λ g. not g && stays b (place_at places j)) (sym past) ]
+          let past : is_gone r.arena.gone j ≡ true = get_or_past r.arena.gone j true (subst (λ m. m ≤ j) len l) in
+          let size : length (staying r) ≡ length keep = length-map (range_with_len 0 (length keep)) f ∙ length_range (length keep) 0 in
+          get_or_past (staying r) j false (subst (λ m. m ≤ j) (sym size) l) ∙ ap (λ g. not g && stays b (place_at places j)) (sym past)
+    ]
   where
     length_range : (n a : ℕ) → length (range_with_len a n) ≡ n
     length_range zero a = refl

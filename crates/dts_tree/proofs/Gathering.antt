@@ -21,8 +21,9 @@ use Rattle.dts_tree.proofs.Tying.{IsTied, deed_of, event_alive, alive_false}
 pub same_slot : (a : ArenaData) (places : List Place) → IsShaped a.spots places → IsSound a → (i j : ℕ) → is_gone a.gone i ≡ false → is_gone a.gone j ≡ false
     → place_eq (place_at places i) (place_at places j) ≡ eqb i j
 same_slot a places shape sound i j g h = elim (cases_eq i j) [
-  inl e ↦ place_is (place_at places i) (place_at places j) (ap (place_at places) e) ∙ sym (eq-eqb i j e)
-  | inr n ↦ false_from_ne_true (place_eq (place_at places i) (place_at places j)) (λ e. n (apart a places shape sound i j g h (same_place (place_at places i) (place_at places j) e))) ∙ sym (ne_eqb i j n) ]
+  | inl e ↦ place_is (place_at places i) (place_at places j) (ap (place_at places) e) ∙ sym (eq-eqb i j e)
+  | inr n ↦ false_from_ne_true (place_eq (place_at places i) (place_at places j)) (λ e. n (apart a places shape sound i j g h (same_place (place_at places i) (place_at places j) e))) ∙ sym (ne_eqb i j n)
+]
 
 -- ---- what events give a slot
 
@@ -133,9 +134,10 @@ none_marked false false = refl
 
 value_set : (n : ℕ) (g : GrownData) (i j : ℕ) (v : List PartData) → Sizes n g → i < n → get_or (set g.values j v) i [] ≡ over (if_same (eqb i j) (Some v)) (get_or g.values i [])
 value_set n g i j v s l = elim (cases_eq i j) [
-  inl e ↦ subst (λ k. get_or (set g.values k v) i [] ≡ over (if_same (eqb i k) (Some v)) (get_or g.values i [])) e
-    (get_or-set_same g.values i v [] (subst (λ m. i < m) (sym s.values) l) ∙ ap (λ b. over (if_same b (Some v)) (get_or g.values i [])) (sym (eq-eqb i i refl)))
-  | inr d ↦ get_or-set_other g.values j i v [] d ∙ ap (λ b. over (if_same b (Some v)) (get_or g.values i [])) (sym (ne_eqb i j d)) ]
+  | inl e ↦ subst (λ k. get_or (set g.values k v) i [] ≡ over (if_same (eqb i k) (Some v)) (get_or g.values i [])) e
+      (get_or-set_same g.values i v [] (subst (λ m. i < m) (sym s.values) l) ∙ ap (λ b. over (if_same b (Some v)) (get_or g.values i [])) (sym (eq-eqb i i refl)))
+  | inr d ↦ get_or-set_other g.values j i v [] d ∙ ap (λ b. over (if_same b (Some v)) (get_or g.values i [])) (sym (ne_eqb i j d))
+]
 
 value_act_at : (n : ℕ) (g : GrownData) (i j : ℕ) (act : ActData) → Sizes n g → i < n → value_at (with_act g j act) i ≡ over (if_same (eqb i j) (value_act act)) (value_at g i)
 value_act_at n g i j (Open t) s l = none_over (eqb i j) (value_at g i)
@@ -149,10 +151,11 @@ value_act_at n g i j (Omit t) s l = none_over (eqb i j) (value_at g i)
 label_set : (n : ℕ) (g : GrownData) (i j : ℕ) (k : List ℕ) → Sizes n g → i < n
     → get_or (set g.labels j (with_new bytes_eq (get_or g.labels j []) k)) i [] ≡ noted (if_same (eqb i j) (Some k)) (get_or g.labels i [])
 label_set n g i j k s l = elim (cases_eq i j) [
-  inl e ↦ subst (λ m. get_or (set g.labels m (with_new bytes_eq (get_or g.labels m []) k)) i [] ≡ noted (if_same (eqb i m) (Some k)) (get_or g.labels i [])) e
-    (get_or-set_same g.labels i (with_new bytes_eq (get_or g.labels i []) k) [] (subst (λ m. i < m) (sym s.labels) l)
-    ∙ ap (λ b. noted (if_same b (Some k)) (get_or g.labels i [])) (sym (eq-eqb i i refl)))
-  | inr d ↦ get_or-set_other g.labels j i (with_new bytes_eq (get_or g.labels j []) k) [] d ∙ ap (λ b. noted (if_same b (Some k)) (get_or g.labels i [])) (sym (ne_eqb i j d)) ]
+  | inl e ↦ subst (λ m. get_or (set g.labels m (with_new bytes_eq (get_or g.labels m []) k)) i [] ≡ noted (if_same (eqb i m) (Some k)) (get_or g.labels i [])) e
+      (get_or-set_same g.labels i (with_new bytes_eq (get_or g.labels i []) k) [] (subst (λ m. i < m) (sym s.labels) l)
+      ∙ ap (λ b. noted (if_same b (Some k)) (get_or g.labels i [])) (sym (eq-eqb i i refl)))
+  | inr d ↦ get_or-set_other g.labels j i (with_new bytes_eq (get_or g.labels j []) k) [] d ∙ ap (λ b. noted (if_same b (Some k)) (get_or g.labels i [])) (sym (ne_eqb i j d))
+]
 
 label_act_at : (n : ℕ) (g : GrownData) (i j : ℕ) (act : ActData) → Sizes n g → i < n → labels_at (with_act g j act) i ≡ noted (if_same (eqb i j) (label_act act)) (labels_at g i)
 label_act_at n g i j (Open t) s l = none_noted (eqb i j) (labels_at g i)
@@ -173,10 +176,11 @@ or_none false = refl
 
 mark_set : (n : ℕ) (g : GrownData) (i j : ℕ) → Sizes n g → i < n → get_or (set g.marks j true) i false ≡ (get_or g.marks i false || (eqb i j && true))
 mark_set n g i j s l = elim (cases_eq i j) [
-  inl e ↦ subst (λ m. get_or (set g.marks m true) i false ≡ (get_or g.marks i false || (eqb i m && true))) e
-    (get_or-set_same g.marks i true false (subst (λ m. i < m) (sym s.marks) l)
-    ∙ (or_true (get_or g.marks i false) ∙ ap (λ b. get_or g.marks i false || (b && true)) (sym (eq-eqb i i refl))))
-  | inr d ↦ get_or-set_other g.marks j i true false d ∙ (or_none (get_or g.marks i false) ∙ ap (λ b. get_or g.marks i false || (b && true)) (sym (ne_eqb i j d))) ]
+  | inl e ↦ subst (λ m. get_or (set g.marks m true) i false ≡ (get_or g.marks i false || (eqb i m && true))) e
+      (get_or-set_same g.marks i true false (subst (λ m. i < m) (sym s.marks) l)
+      ∙ (or_true (get_or g.marks i false) ∙ ap (λ b. get_or g.marks i false || (b && true)) (sym (eq-eqb i i refl))))
+  | inr d ↦ get_or-set_other g.marks j i true false d ∙ (or_none (get_or g.marks i false) ∙ ap (λ b. get_or g.marks i false || (b && true)) (sym (ne_eqb i j d)))
+]
 
 mark_act_at : (n : ℕ) (g : GrownData) (i j : ℕ) (act : ActData) → Sizes n g → i < n
     → get_or (with_act g j act).marks i false ≡ (get_or g.marks i false || (eqb i j && mark_act act))
@@ -199,9 +203,9 @@ overs d vs = fold (λ _ v. v) d vs
 
 values_by : (b : Bool) (gone : List Bool) (n i : ℕ) (g : GrownData) (e : EventData) (es : List EventData) → Sizes n g → i < n
     → value_at (grown_from gone (cond b g (with_act g e.slot e.act)) es) i
-      ≡ overs (value_at (cond b g (with_act g e.slot e.act)) i) (filter_map (slot_value i) (filter (event_alive gone) es))
+    ≡ overs (value_at (cond b g (with_act g e.slot e.act)) i) (filter_map (slot_value i) (filter (event_alive gone) es))
     → value_at (grown_from gone (cond b g (with_act g e.slot e.act)) es) i
-      ≡ overs (value_at g i) (filter_map (slot_value i) (cond (not b) (e ∷ filter (event_alive gone) es) (filter (event_alive gone) es)))
+    ≡ overs (value_at g i) (filter_map (slot_value i) (cond (not b) (e ∷ filter (event_alive gone) es) (filter (event_alive gone) es)))
 values_by true gone n i g e es s l h = h
 values_by false gone n i g e es s l h =
     h ∙ (ap (λ v. overs v (filter_map (slot_value i) (filter (event_alive gone) es))) (value_act_at n g i e.slot e.act s l)
@@ -223,9 +227,9 @@ noted_cons (Some v) d vs = refl
 
 labels_by : (b : Bool) (gone : List Bool) (n i : ℕ) (g : GrownData) (e : EventData) (es : List EventData) → Sizes n g → i < n
     → labels_at (grown_from gone (cond b g (with_act g e.slot e.act)) es) i
-      ≡ fold (with_new bytes_eq) (labels_at (cond b g (with_act g e.slot e.act)) i) (filter_map (slot_label i) (filter (event_alive gone) es))
+    ≡ fold (with_new bytes_eq) (labels_at (cond b g (with_act g e.slot e.act)) i) (filter_map (slot_label i) (filter (event_alive gone) es))
     → labels_at (grown_from gone (cond b g (with_act g e.slot e.act)) es) i
-      ≡ fold (with_new bytes_eq) (labels_at g i) (filter_map (slot_label i) (cond (not b) (e ∷ filter (event_alive gone) es) (filter (event_alive gone) es)))
+    ≡ fold (with_new bytes_eq) (labels_at g i) (filter_map (slot_label i) (cond (not b) (e ∷ filter (event_alive gone) es) (filter (event_alive gone) es)))
 labels_by true gone n i g e es s l h = h
 labels_by false gone n i g e es s l h =
     h ∙ (ap (λ v. fold (with_new bytes_eq) v (filter_map (slot_label i) (filter (event_alive gone) es))) (label_act_at n g i e.slot e.act s l)
@@ -243,9 +247,9 @@ or_assoc false b c = refl
 
 marks_by : (b : Bool) (gone : List Bool) (n i : ℕ) (g : GrownData) (e : EventData) (es : List EventData) → Sizes n g → i < n
     → get_or (grown_from gone (cond b g (with_act g e.slot e.act)) es).marks i false
-      ≡ (get_or (cond b g (with_act g e.slot e.act)).marks i false || list_any (slot_mark i) (filter (event_alive gone) es))
+    ≡ (get_or (cond b g (with_act g e.slot e.act)).marks i false || list_any (slot_mark i) (filter (event_alive gone) es))
     → get_or (grown_from gone (cond b g (with_act g e.slot e.act)) es).marks i false
-      ≡ (get_or g.marks i false || list_any (slot_mark i) (cond (not b) (e ∷ filter (event_alive gone) es) (filter (event_alive gone) es)))
+    ≡ (get_or g.marks i false || list_any (slot_mark i) (cond (not b) (e ∷ filter (event_alive gone) es) (filter (event_alive gone) es)))
 marks_by true gone n i g e es s l h = h
 marks_by false gone n i g e es s l h =
     h ∙ (ap (λ v. v || list_any (slot_mark i) (filter (event_alive gone) es)) (mark_act_at n g i e.slot e.act s l)
@@ -289,10 +293,10 @@ value_is places a es l us t i g =
     ∙ (ap (λ d. overs d (filter_map (slot_value i) (filter (event_alive a.gone) es))) (get_or-replicate n i [] [] w)
     ∙ (overs_last [] None (filter_map (slot_value i) (filter (event_alive a.gone) es))
     ∙ ap (λ vs. unwrap_or (last_of vs) [])
-      (picked_same (slot_value i) (λ d. value_in (place_at places i) d.at d.act) (deed_of places) (filter (event_alive a.gone) es) (λ e m.
-        let h = alive_false a.gone e.slot (Rattle.dts_tree.proofs.Lists.member_of_filter (event_alive a.gone) es e m).1 in
-        ap (λ b. if_same b (value_act e.act)) (sym (same_slot a places t.shape t.sound i e.slot g h)) ∙ sym (value_if (place_at places i) (place_at places e.slot) e.act))
-      ∙ ap (filter_map (λ (d : Deed). value_in (place_at places i) d.at d.act)) t.events)))
+    (picked_same (slot_value i) (λ d. value_in (place_at places i) d.at d.act) (deed_of places) (filter (event_alive a.gone) es) (λ e m.
+    let h = alive_false a.gone e.slot (Rattle.dts_tree.proofs.Lists.member_of_filter (event_alive a.gone) es e m).1 in
+    ap (λ b. if_same b (value_act e.act)) (sym (same_slot a places t.shape t.sound i e.slot g h)) ∙ sym (value_if (place_at places i) (place_at places e.slot) e.act))
+    ∙ ap (filter_map (λ (d : Deed). value_in (place_at places i) d.at d.act)) t.events)))
 
 pub labels_are : (places : List Place) (a : ArenaData) (es : List EventData) (l : LabelsData) (us : List Deed) → IsTied places a es l us → (i : ℕ) → is_gone a.gone i ≡ false
     → labels_at (grown_from a.gone (no_grown (length a.spots)) es) i ≡ labels us (place_at places i)
@@ -302,10 +306,10 @@ labels_are places a es l us t i g =
     labels_all a.gone n i es (no_grown n) (none_sizes n) w
     ∙ (ap (λ d. fold (with_new bytes_eq) d (filter_map (slot_label i) (filter (event_alive a.gone) es))) (get_or-replicate n i [] [] w)
     ∙ ap (firsts bytes_eq)
-      (picked_same (slot_label i) (λ d. label_in (place_at places i) d.at d.act) (deed_of places) (filter (event_alive a.gone) es) (λ e m.
-        let h = alive_false a.gone e.slot (Rattle.dts_tree.proofs.Lists.member_of_filter (event_alive a.gone) es e m).1 in
-        ap (λ b. if_same b (label_act e.act)) (sym (same_slot a places t.shape t.sound i e.slot g h)) ∙ sym (label_if (place_at places i) (place_at places e.slot) e.act))
-      ∙ ap (filter_map (λ (d : Deed). label_in (place_at places i) d.at d.act)) t.events))
+    (picked_same (slot_label i) (λ d. label_in (place_at places i) d.at d.act) (deed_of places) (filter (event_alive a.gone) es) (λ e m.
+    let h = alive_false a.gone e.slot (Rattle.dts_tree.proofs.Lists.member_of_filter (event_alive a.gone) es e m).1 in
+    ap (λ b. if_same b (label_act e.act)) (sym (same_slot a places t.shape t.sound i e.slot g h)) ∙ sym (label_if (place_at places i) (place_at places e.slot) e.act))
+    ∙ ap (filter_map (λ (d : Deed). label_in (place_at places i) d.at d.act)) t.events))
 
 pub mark_is : (places : List Place) (a : ArenaData) (es : List EventData) (l : LabelsData) (us : List Deed) → IsTied places a es l us → (i : ℕ) → is_gone a.gone i ≡ false
     → get_or (grown_from a.gone (no_grown (length a.spots)) es).marks i false ≡ is_marked us (place_at places i)
@@ -315,6 +319,6 @@ mark_is places a es l us t i g =
     marks_all a.gone n i es (no_grown n) (none_sizes n) w
     ∙ (ap (λ b. b || list_any (slot_mark i) (filter (event_alive a.gone) es)) (get_or-replicate n i false false w)
     ∙ (any_same (slot_mark i) (λ d. marks (place_at places i) d.at d.act) (deed_of places) (filter (event_alive a.gone) es) (λ e m.
-        let h = alive_false a.gone e.slot (Rattle.dts_tree.proofs.Lists.member_of_filter (event_alive a.gone) es e m).1 in
-        ap (λ b. b && mark_act e.act) (sym (same_slot a places t.shape t.sound i e.slot g h)) ∙ sym (mark_if (place_at places i) (place_at places e.slot) e.act))
-      ∙ ap (list_any (λ (d : Deed). marks (place_at places i) d.at d.act)) t.events))
+    let h = alive_false a.gone e.slot (Rattle.dts_tree.proofs.Lists.member_of_filter (event_alive a.gone) es e m).1 in
+    ap (λ b. b && mark_act e.act) (sym (same_slot a places t.shape t.sound i e.slot g h)) ∙ sym (mark_if (place_at places i) (place_at places e.slot) e.act))
+    ∙ ap (list_any (λ (d : Deed). marks (place_at places i) d.at d.act)) t.events))

@@ -99,8 +99,9 @@ uncovered_by false d us x m = m
 pub uncovered_in : (ds : List Deed) (x : Deed) → Member x (uncovered ds) → Member x ds
 uncovered_in [] x m = absurd m
 uncovered_in (d ∷ ds) x m = elim (uncovered_by (deletes d.act || list_any (λ c. covers c d) ds) d (uncovered ds) x m) [
-  inl e ↦ inl e
-  | inr n ↦ inr (uncovered_in ds x n) ]
+  | inl e ↦ inl e
+  | inr n ↦ inr (uncovered_in ds x n)
+]
 
 cons_by : {Y : Type 0} (o : Option Y) (ys : List Y) (y : Y) → Member y (cons_option o ys) → (o ≡ Some y) ⊎ Member y ys
 cons_by None ys y m = inr m
@@ -110,8 +111,9 @@ cons_by (Some x) ys y (inr m) = inr m
 pub picked_in : {X Y : Type 0} (f : X → Option Y) (xs : List X) (y : Y) → Member y (filter_map f xs) → (x : X) × Member x xs × (f x ≡ Some y)
 picked_in f [] y m = absurd m
 picked_in f (x ∷ xs) y m = elim (cons_by (f x) (filter_map f xs) y m) [
-  inl e ↦ (x, inl refl, e)
-  | inr n ↦ let r = picked_in f xs y n in (r.0, inr r.1, r.2) ]
+  | inl e ↦ (x, inl refl, e)
+  | inr n ↦ let r = picked_in f xs y n in (r.0, inr r.1, r.2)
+]
 
 new_in : (b : Bool) (x p : Place) (acc : List Place) → Member p (cond b acc (acc ++ x ∷ [])) → Member p acc ⊎ (x ≡ p)
 new_in true x p acc m = inl m
@@ -120,8 +122,9 @@ new_in false x p acc m = elim (member_cases p acc (x ∷ []) m) [ inl n ↦ inl 
 news_in : (xs acc : List Place) (p : Place) → Member p (fold (with_new place_eq) acc xs) → Member p acc ⊎ Member p xs
 news_in [] acc p m = inl m
 news_in (x ∷ xs) acc p m = elim (news_in xs (with_new place_eq acc x) p m) [
-  inl n ↦ elim (new_in (list_any (place_eq x) acc) x p acc n) [ inl k ↦ inl k | inr e ↦ inr (inl e) ]
-  | inr n ↦ inr (inr n) ]
+  | inl n ↦ elim (new_in (list_any (place_eq x) acc) x p acc n) [ inl k ↦ inl k | inr e ↦ inr (inl e) ]
+  | inr n ↦ inr (inr n)
+]
 
 begun_at : (b : Bool) (d : Deed) (y : Place) → cond b (Some d.at) None ≡ Some y → d.at ≡ y
 begun_at true d y e = same_Some d.at y e
@@ -130,8 +133,9 @@ begun_at false d y e = absurd (none-some y e)
 -- what is there is the root, or the place of a deed
 pub spot_in : (us : List Deed) (p : Place) → Member p (spots us) → (p ≡ []) ⊎ ((d : Deed) × Member d us × (d.at ≡ p))
 spot_in us p m = elim (news_in (filter_map begun us) ([] ∷ []) p m) [
-  inl n ↦ elim n [ inl e ↦ inl (sym e) | inr k ↦ absurd k ]
-  | inr n ↦ let r = picked_in begun us p n in inr (r.0, r.1, begun_at (begins r.0.act) r.0 p r.2) ]
+  | inl n ↦ elim n [ inl e ↦ inl (sym e) | inr k ↦ absurd k ]
+  | inr n ↦ let r = picked_in begun us p n in inr (r.0, r.1, begun_at (begins r.0.act) r.0 p r.2)
+]
 
 abbrev pub AreGood : List Deed → Type 0
 AreGood us = list_all is_good_deed us ≡ true
@@ -141,8 +145,9 @@ deed_good us d h m = and_parts (is_good_place d.at) (good_value d.act) (all_at i
 
 pub spot_good : (us : List Deed) (p : Place) → AreGood us → Member p (spots us) → is_good_place p ≡ true
 spot_good us p h m = elim (spot_in us p m) [
-  inl e ↦ ap is_good_place e
-  | inr r ↦ ap is_good_place (sym r.2) ∙ (deed_good us r.0 h r.1).0 ]
+  | inl e ↦ ap is_good_place e
+  | inr r ↦ ap is_good_place (sym r.2) ∙ (deed_good us r.0 h r.1).0
+]
 
 last_by : {X : Type 0} (xs : List X) (o : Option X) (x : X) → fold (λ _ y. Some y) o xs ≡ Some x → (o ≡ Some x) ⊎ Member x xs
 last_by [] o x h = inl h

@@ -33,24 +33,25 @@ lens_step spots places pre s ss lens shape e l known =
     let here : spot_at spots (length pre) ≡ s = ap (λ xs. spot_at xs (length pre)) e ∙ get_or_at pre s ss (spot (Child []) 0) (length pre) refl in
     let size : length spots ≡ length pre + length (s ∷ ss) = ap length e ∙ length-append pre (s ∷ ss) in
     elim (cases_eq (length pre) 0) [
-      inl z ↦
-        let none : slice_get lens s.parent ≡ None = slice_get_past lens s.parent (omega arith) in
-        let root : place_at places (length pre) ≡ [] = ap (place_at places) z ∙ shape.root in
-        ap (λ o. option_map_or (λ len. min (min (len + length (step_name s.step)) most + 1) most) o 0) none ∙ ap (λ p. min (length (below_text p)) most) (sym root)
+      | inl z ↦
+          let none : slice_get lens s.parent ≡ None = slice_get_past lens s.parent (omega arith) in
+          let root : place_at places (length pre) ≡ [] = ap (place_at places) z ∙ shape.root in
+          ap (λ o. option_map_or (λ len. min (min (len + length (step_name s.step)) most + 1) most) o 0) none ∙ ap (λ p. min (length (below_text p)) most) (sym root)
       | inr n ↦
-        let p : 0 < length pre = omega arith in
-        let w : length pre < length spots = omega arith in
-        let up : parent_at spots (length pre) < length pre = shape.parents (length pre) p w in
-        let same : parent_at spots (length pre) ≡ s.parent = ap (λ (x : Spot). x.parent) here in
-        let low : s.parent < length lens = omega arith in
-        let step = shape.steps (length pre) p w in
-        let place : place_at places (length pre) ≡ s.step ∷ place_at places s.parent = step ∙ ap (λ (x : Spot). x.step ∷ place_at places x.parent) here in
-        let got : slice_get lens s.parent ≡ Some (get_or lens s.parent 0) = slice_get-get_or lens s.parent 0 low in
-        let len : get_or lens s.parent 0 ≡ min (length (below_text (place_at places s.parent))) most = known s.parent low in
-        ap (λ o. option_map_or (λ len. min (min (len + length (step_name s.step)) most + 1) most) o 0) got
-        ∙ (ap (λ x. min (min (x + length (step_name s.step)) most + 1) most) len
-        ∙ (min_len most (length (below_text (place_at places s.parent))) (length (step_name s.step))
-        ∙ (ap (λ x. min x most) (sym (below_len s.step (place_at places s.parent))) ∙ ap (λ q. min (length (below_text q)) most) (sym place)))) ]
+          let p : 0 < length pre = omega arith in
+          let w : length pre < length spots = omega arith in
+          let up : parent_at spots (length pre) < length pre = shape.parents (length pre) p w in
+          let same : parent_at spots (length pre) ≡ s.parent = ap (λ (x : Spot). x.parent) here in
+          let low : s.parent < length lens = omega arith in
+          let step = shape.steps (length pre) p w in
+          let place : place_at places (length pre) ≡ s.step ∷ place_at places s.parent = step ∙ ap (λ (x : Spot). x.step ∷ place_at places x.parent) here in
+          let got : slice_get lens s.parent ≡ Some (get_or lens s.parent 0) = slice_get-get_or lens s.parent 0 low in
+          let len : get_or lens s.parent 0 ≡ min (length (below_text (place_at places s.parent))) most = known s.parent low in
+          ap (λ o. option_map_or (λ len. min (min (len + length (step_name s.step)) most + 1) most) o 0) got
+          ∙ (ap (λ x. min (min (x + length (step_name s.step)) most + 1) most) len
+          ∙ (min_len most (length (below_text (place_at places s.parent))) (length (step_name s.step))
+          ∙ (ap (λ x. min x most) (sym (below_len s.step (place_at places s.parent))) ∙ ap (λ q. min (length (below_text q)) most) (sym place))))
+    ]
 
 lens_all : (spots : List Spot) (places : List Place) (ss pre : List Spot) (lens : List ℕ) → IsShaped spots places → spots ≡ pre ++ ss → length lens ≡ length pre
     → AreLens places lens → (length (lens_from lens ss) ≡ length spots) × AreLens places (lens_from lens ss)
@@ -61,11 +62,12 @@ lens_all spots places (s ∷ ss) pre lens shape e l known =
     let len' : length (pre ++ s ∷ []) ≡ length pre + 1 = length_push pre s in
     lens_all spots places ss (pre ++ s ∷ []) (lens ++ next ∷ []) shape (e ∙ sym (append_assoc pre (s ∷ []) ss)) (omega arith) (λ k h.
     elim (cases_lt k (length lens)) [
-      inl m ↦ get_or_append_left lens (next ∷ []) 0 k m ∙ known k m
+      | inl m ↦ get_or_append_left lens (next ∷ []) 0 k m ∙ known k m
       | inr m ↦
-        let at : length lens ≡ k = omega arith in
-        get_or_push lens next 0 k at
-        ∙ (lens_step spots places pre s ss lens shape e l known ∙ ap (λ j. min (length (below_text (place_at places j))) most) (sym l ∙ at)) ])
+          let at : length lens ≡ k = omega arith in
+          get_or_push lens next 0 k at
+          ∙ (lens_step spots places pre s ss lens shape e l known ∙ ap (λ j. min (length (below_text (place_at places j))) most) (sym l ∙ at))
+    ])
 
 pub lens_are : (spots : List Spot) (places : List Place) → IsShaped spots places → (i : ℕ) → i < length spots
     → (length (lens_of spots) ≡ length spots) × (get_or (lens_of spots) i 0 ≡ min (length (below_text (place_at places i))) most)
@@ -101,13 +103,14 @@ sums_same spots places shape (i ∷ is) low =
     ap (λ x. min x most) (sum_cons (len_at (lens_of spots)) i is)
     ∙ (ap (λ x. min (x + sum_by (len_at (lens_of spots)) is) most) (len_is spots places shape i (low i (inl refl)))
     ∙ (min_sum most (length (path_text (place_at places i))) (sum_by (len_at (lens_of spots)) is) (sum_by (λ (p : Place). length (path_text p)) (map (place_at places) is))
-      (sums_same spots places shape is (λ j m. low j (inr m)))
+    (sums_same spots places shape is (λ j m. low j (inr m)))
     ∙ ap (λ x. min x most) (sym (sum_cons (λ (p : Place). length (path_text p)) (place_at places i) (map (place_at places) is)))))
 
 pub above_min : (k s m : ℕ) → k < m → ltb k (min s m) ≡ ltb k s
 above_min k s m h = elim (cases_lt k s) [
-  inl l ↦ lt-ltb k (min s m) (omega arith) ∙ sym (lt-ltb k s l)
-  | inr l ↦ le-ltb k (min s m) (omega arith) ∙ sym (le-ltb k s l) ]
+  | inl l ↦ lt-ltb k (min s m) (omega arith) ∙ sym (lt-ltb k s l)
+  | inr l ↦ le-ltb k (min s m) (omega arith) ∙ sym (le-ltb k s l)
+]
 
 -- the paths have too many bytes together, by slots and by places
 pub many_bytes : (spots : List Spot) (places : List Place) → IsShaped spots places → (is : List ℕ) → ((i : ℕ) → Member i is → i < length spots)

@@ -77,12 +77,15 @@ unshared us (z ∷ ps) seen h p q l m n a b =
     let later : (x : Place) → Member x ps → Member l (labels us x) → Member l (labels us z) → ⊥ = λ x k c d.
     unseen us ps (seen ++ labels us z) r.1 x l k c (Rattle.dts_tree.proofs.Lists.member_right l seen (labels us z) d) in
     elim m [
-      inl e ↦ elim n [
-        inl f ↦ sym e ∙ f
-        | inr k ↦ absurd (later q k b (subst (λ x. Member l (labels us x)) (sym e) a)) ]
+      | inl e ↦ elim n [
+        | inl f ↦ sym e ∙ f
+        | inr k ↦ absurd (later q k b (subst (λ x. Member l (labels us x)) (sym e) a))
+      ]
       | inr j ↦ elim n [
-        inl f ↦ absurd (later p j a (subst (λ x. Member l (labels us x)) (sym f) b))
-        | inr k ↦ unshared us ps (seen ++ labels us z) r.1 p q l j k a b ] ]
+        | inl f ↦ absurd (later p j a (subst (λ x. Member l (labels us x)) (sym f) b))
+        | inr k ↦ unshared us ps (seen ++ labels us z) r.1 p q l j k a b
+      ]
+    ]
 
 -- ---- the drafts of what is left
 
@@ -99,12 +102,13 @@ few_left b h =
 
 below_left : (b : Before) (s : Step) (p : Place) → Member (s ∷ p) (kept b) → (n : List ℕ) × (s ≡ Child n) × Member p (kept b) × Member (s ∷ p) (spots (live b))
 below_left b s p m = elim (walk_known (suc (length b.deeds)) (live b) (stays b) [] (s ∷ p) m) [
-  inl e ↦ absurd (cc)
+  | inl e ↦ absurd (cc)
   | inr k ↦
-    let place : s ∷ p ≡ Child k.name ∷ k.up = k.place in
-    let step : s ≡ Child k.name = cc in
-    let up : k.up ≡ p = cc in
-    (k.name, step, subst (λ x. Member x (kept b)) up k.walked_up, k.there) ]
+      let place : s ∷ p ≡ Child k.name ∷ k.up = k.place in
+      let step : s ≡ Child k.name = cc in
+      let up : k.up ≡ p = cc in
+      (k.name, step, subst (λ x. Member x (kept b)) up k.walked_up, k.there)
+]
 
 next_left : (b : Before) (i : ℕ) (q r : Place) → slice_get (kept b) i ≡ Some q → slice_get (kept b) (i + 1) ≡ Some r → Rattle.dts_tree.proofs.WalkLaws.IsNext q r
 next_left b i q r g h =

@@ -40,14 +40,15 @@ kid_at : (b : Bool) (ls : List (List ℕ)) (p i j : ℕ) (rest : List ℕ) → i
     → get_or (cond b (set ls p (get_or ls p [] ++ j ∷ [])) ls) i [] ++ rest ≡ get_or ls i [] ++ cond (b && eqb p i) (j ∷ rest) rest
 kid_at false ls p i j rest l = refl
 kid_at true ls p i j rest l = elim (cases_eq p i) [
-  inl e ↦
-    subst (λ k. get_or (set ls k (get_or ls k [] ++ j ∷ [])) i [] ++ rest ≡ get_or ls i [] ++ cond (eqb k i) (j ∷ rest) rest) (sym e)
-    (ap (λ t. t ++ rest) (get_or-set_same ls i (get_or ls i [] ++ j ∷ []) [] l)
-    ∙ (append_assoc (get_or ls i []) (j ∷ []) rest ∙ ap (λ b. get_or ls i [] ++ cond b (j ∷ rest) rest) (sym (eq-eqb i i refl))))
+  | inl e ↦
+      subst (λ k. get_or (set ls k (get_or ls k [] ++ j ∷ [])) i [] ++ rest ≡ get_or ls i [] ++ cond (eqb k i) (j ∷ rest) rest) (sym e)
+      (ap (λ t. t ++ rest) (get_or-set_same ls i (get_or ls i [] ++ j ∷ []) [] l)
+      ∙ (append_assoc (get_or ls i []) (j ∷ []) rest ∙ ap (λ b. get_or ls i [] ++ cond b (j ∷ rest) rest) (sym (eq-eqb i i refl))))
   | inr n ↦
-    let d : i ≡ p → ⊥ = λ e. n (sym e) in
-    ap (λ t. t ++ rest) (get_or-set_other ls p i (get_or ls p [] ++ j ∷ []) [] d)
-    ∙ ap (λ b. get_or ls i [] ++ cond b (j ∷ rest) rest) (sym (ne_eqb p i n)) ]
+      let d : i ≡ p → ⊥ = λ e. n (sym e) in
+      ap (λ t. t ++ rest) (get_or-set_other ls p i (get_or ls p [] ++ j ∷ []) [] d)
+      ∙ ap (λ b. get_or ls i [] ++ cond b (j ∷ rest) rest) (sym (ne_eqb p i n))
+]
 
 kids_at : (keep : List Bool) (node : Bool) (i first : ℕ) (ss : List Spot) (ls : List (List ℕ)) → i < length ls
     → below_in (kids_from keep node first ls ss) i ≡ get_or ls i [] ++ kid_slots keep node i first ss
@@ -93,25 +94,26 @@ kids_past spots keep node i l = get_or_past (kids_of spots keep node) i [] (subs
 kid_known : (spots : List Spot) (keep : List Bool) (node : Bool) (i j : ℕ) → Member j (below_in (kids_of spots keep node) i)
     → (get_or keep j false ≡ true) × (0 < j) × (j < length spots) × (parent_at spots j ≡ i)
 kid_known spots keep node i j m = elim (cases_lt i (length spots)) [
-  inl l ↦
-    let r = member_of_filter (kid_test spots keep node i) (range_with_len 0 (length spots)) j (subst (λ xs. Member j xs) (kids_are spots keep node i l) m) in
-    let low = member_of_range j 0 (length spots) r.0 in
-    let t = and_parts (is_kid keep node j (spot_at spots j)) (eqb (parent_at spots j) i) r.1 in
-    let k = and_parts (get_or keep j false) (ltb 0 j && cond (is_node (spot_at spots j)) node (not node)) t.0 in
-    let p = and_parts (ltb 0 j) (cond (is_node (spot_at spots j)) node (not node)) k.1 in
-    (k.0, ltb-true 0 j p.0, omega (arith, low.1), eqb-true (parent_at spots j) i t.1)
-  | inr l ↦ absurd (subst (λ xs. Member j xs) (kids_past spots keep node i l) m) ]
+  | inl l ↦
+      let r = member_of_filter (kid_test spots keep node i) (range_with_len 0 (length spots)) j (subst (λ xs. Member j xs) (kids_are spots keep node i l) m) in
+      let low = member_of_range j 0 (length spots) r.0 in
+      let t = and_parts (is_kid keep node j (spot_at spots j)) (eqb (parent_at spots j) i) r.1 in
+      let k = and_parts (get_or keep j false) (ltb 0 j && cond (is_node (spot_at spots j)) node (not node)) t.0 in
+      let p = and_parts (ltb 0 j) (cond (is_node (spot_at spots j)) node (not node)) k.1 in
+      (k.0, ltb-true 0 j p.0, omega (arith, low.1), eqb-true (parent_at spots j) i t.1)
+  | inr l ↦ absurd (subst (λ xs. Member j xs) (kids_past spots keep node i l) m)
+]
 
 -- slots below stand behind
 pub kids_rising : (spots : List Spot) (keep : List Bool) (node : Bool) → ((j : ℕ) → 0 < j → j < length spots → parent_at spots j < j) → AreRising (kids_of spots keep node)
 kids_rising spots keep node rise = record {
   above = λ i. all_from (ltb i) (below_in (kids_of spots keep node) i) (λ j m.
-    let k = kid_known spots keep node i j m in
-    let up : parent_at spots j < j = rise j k.1 k.2 in
-    lt-ltb i j (subst (λ p. p < j) k.3 up));
+      let k = kid_known spots keep node i j m in
+      let up : parent_at spots j < j = rise j k.1 k.2 in
+      lt-ltb i j (subst (λ p. p < j) k.3 up));
   within = λ i. all_from (λ j. ltb j (length (kids_of spots keep node))) (below_in (kids_of spots keep node) i) (λ j m.
-    let k = kid_known spots keep node i j m in
-    lt-ltb j (length (kids_of spots keep node)) (subst (λ n. j < n) (sym (kids_length spots keep node)) k.2));
+      let k = kid_known spots keep node i j m in
+      lt-ltb j (length (kids_of spots keep node)) (subst (λ n. j < n) (sym (kids_length spots keep node)) k.2));
 }
 
 -- the same of spots whose parents stand before them
@@ -172,24 +174,25 @@ test_by true places a keep test i j shape sound keeps g h =
     let w : j < length a.spots = subst (λ m. j < m) sound.gone (there_within a.gone j gj) in
     let kept : get_or keep j false ≡ (true && test (place_at places j)) = keeps j ∙ ap (λ b. b && test (place_at places j)) h in
     elim (cases_eq j 0) [
-      inl z ↦
-        let low : ltb 0 j ≡ false = ap (ltb 0) z in
-        let root : place_at places j ≡ [] = ap (place_at places) z ∙ shape.root in
-        ap (λ k. (get_or keep j false && (k && cond (is_node (spot_at a.spots j)) true (not true))) && eqb (parent_at a.spots j) i) low
-        ∙ (ap (λ k. k && eqb (parent_at a.spots j) i) (and_false (get_or keep j false))
-        ∙ ap (λ p. is_child_of (place_at places i) p && test p) (sym root))
+      | inl z ↦
+          let low : ltb 0 j ≡ false = ap (ltb 0) z in
+          let root : place_at places j ≡ [] = ap (place_at places) z ∙ shape.root in
+          ap (λ k. (get_or keep j false && (k && cond (is_node (spot_at a.spots j)) true (not true))) && eqb (parent_at a.spots j) i) low
+          ∙ (ap (λ k. k && eqb (parent_at a.spots j) i) (and_false (get_or keep j false))
+          ∙ ap (λ p. is_child_of (place_at places i) p && test p) (sym root))
       | inr n ↦
-        let p : 0 < j = omega arith in
-        let step = shape.steps j p w in
-        let same : place_eq (place_at places i) (place_at places (parent_at a.spots j)) ≡ eqb (parent_at a.spots j) i =
-        same_slot a places shape sound i (parent_at a.spots j) g (sound.parents j p gj) ∙ eqb_sym i (parent_at a.spots j) in
-        let child : is_child_of (place_at places i) (place_at places j) ≡ (is_node (spot_at a.spots j) && eqb (parent_at a.spots j) i) =
-        ap (is_child_of (place_at places i)) step ∙ child_step (step_at a.spots j) (place_at places i) (place_at places (parent_at a.spots j)) j (eqb (parent_at a.spots j) i) same in
-        ap (λ k. (k && (ltb 0 j && cond (is_node (spot_at a.spots j)) true (not true))) && eqb (parent_at a.spots j) i) kept
-        ∙ (ap (λ k. ((true && test (place_at places j)) && (k && cond (is_node (spot_at a.spots j)) true (not true))) && eqb (parent_at a.spots j) i) (lt-ltb 0 j p)
-        ∙ (ap (λ k. ((true && test (place_at places j)) && (true && k)) && eqb (parent_at a.spots j) i) (node_if (is_node (spot_at a.spots j)))
-        ∙ (shuffle (test (place_at places j)) (is_node (spot_at a.spots j)) (eqb (parent_at a.spots j) i)
-        ∙ ap (λ c. true && (c && test (place_at places j))) (sym child)))) ]
+          let p : 0 < j = omega arith in
+          let step = shape.steps j p w in
+          let same : place_eq (place_at places i) (place_at places (parent_at a.spots j)) ≡ eqb (parent_at a.spots j) i =
+          same_slot a places shape sound i (parent_at a.spots j) g (sound.parents j p gj) ∙ eqb_sym i (parent_at a.spots j) in
+          let child : is_child_of (place_at places i) (place_at places j) ≡ (is_node (spot_at a.spots j) && eqb (parent_at a.spots j) i) =
+          ap (is_child_of (place_at places i)) step ∙ child_step (step_at a.spots j) (place_at places i) (place_at places (parent_at a.spots j)) j (eqb (parent_at a.spots j) i) same in
+          ap (λ k. (k && (ltb 0 j && cond (is_node (spot_at a.spots j)) true (not true))) && eqb (parent_at a.spots j) i) kept
+          ∙ (ap (λ k. ((true && test (place_at places j)) && (k && cond (is_node (spot_at a.spots j)) true (not true))) && eqb (parent_at a.spots j) i) (lt-ltb 0 j p)
+          ∙ (ap (λ k. ((true && test (place_at places j)) && (true && k)) && eqb (parent_at a.spots j) i) (node_if (is_node (spot_at a.spots j)))
+          ∙ (shuffle (test (place_at places j)) (is_node (spot_at a.spots j)) (eqb (parent_at a.spots j) i)
+          ∙ ap (λ c. true && (c && test (place_at places j))) (sym child))))
+    ]
 
 prop_by : (b : Bool) (places : List Place) (a : ArenaData) (keep : List Bool) (test : Place → Bool) (i j : ℕ) → IsShaped a.spots places → IsSound a → Keeps places a keep test
     → is_gone a.gone i ≡ false → is_alive a.gone j ≡ b
@@ -201,24 +204,25 @@ prop_by true places a keep test i j shape sound keeps g h =
     let w : j < length a.spots = subst (λ m. j < m) sound.gone (there_within a.gone j gj) in
     let kept : get_or keep j false ≡ (true && test (place_at places j)) = keeps j ∙ ap (λ b. b && test (place_at places j)) h in
     elim (cases_eq j 0) [
-      inl z ↦
-        let low : ltb 0 j ≡ false = ap (ltb 0) z in
-        let root : place_at places j ≡ [] = ap (place_at places) z ∙ shape.root in
-        ap (λ k. (get_or keep j false && (k && cond (is_node (spot_at a.spots j)) false (not false))) && eqb (parent_at a.spots j) i) low
-        ∙ (ap (λ k. k && eqb (parent_at a.spots j) i) (and_false (get_or keep j false))
-        ∙ ap (λ p. is_prop_of (place_at places i) p && test p) (sym root))
+      | inl z ↦
+          let low : ltb 0 j ≡ false = ap (ltb 0) z in
+          let root : place_at places j ≡ [] = ap (place_at places) z ∙ shape.root in
+          ap (λ k. (get_or keep j false && (k && cond (is_node (spot_at a.spots j)) false (not false))) && eqb (parent_at a.spots j) i) low
+          ∙ (ap (λ k. k && eqb (parent_at a.spots j) i) (and_false (get_or keep j false))
+          ∙ ap (λ p. is_prop_of (place_at places i) p && test p) (sym root))
       | inr n ↦
-        let p : 0 < j = omega arith in
-        let step = shape.steps j p w in
-        let same : place_eq (place_at places i) (place_at places (parent_at a.spots j)) ≡ eqb (parent_at a.spots j) i =
-        same_slot a places shape sound i (parent_at a.spots j) g (sound.parents j p gj) ∙ eqb_sym i (parent_at a.spots j) in
-        let child : is_prop_of (place_at places i) (place_at places j) ≡ (not (is_node (spot_at a.spots j)) && eqb (parent_at a.spots j) i) =
-        ap (is_prop_of (place_at places i)) step ∙ prop_step (step_at a.spots j) (place_at places i) (place_at places (parent_at a.spots j)) j (eqb (parent_at a.spots j) i) same in
-        ap (λ k. (k && (ltb 0 j && cond (is_node (spot_at a.spots j)) false (not false))) && eqb (parent_at a.spots j) i) kept
-        ∙ (ap (λ k. ((true && test (place_at places j)) && (k && cond (is_node (spot_at a.spots j)) false (not false))) && eqb (parent_at a.spots j) i) (lt-ltb 0 j p)
-        ∙ (ap (λ k. ((true && test (place_at places j)) && (true && k)) && eqb (parent_at a.spots j) i) (prop_if (is_node (spot_at a.spots j)))
-        ∙ (shuffle (test (place_at places j)) (not (is_node (spot_at a.spots j))) (eqb (parent_at a.spots j) i)
-        ∙ ap (λ c. true && (c && test (place_at places j))) (sym child)))) ]
+          let p : 0 < j = omega arith in
+          let step = shape.steps j p w in
+          let same : place_eq (place_at places i) (place_at places (parent_at a.spots j)) ≡ eqb (parent_at a.spots j) i =
+          same_slot a places shape sound i (parent_at a.spots j) g (sound.parents j p gj) ∙ eqb_sym i (parent_at a.spots j) in
+          let child : is_prop_of (place_at places i) (place_at places j) ≡ (not (is_node (spot_at a.spots j)) && eqb (parent_at a.spots j) i) =
+          ap (is_prop_of (place_at places i)) step ∙ prop_step (step_at a.spots j) (place_at places i) (place_at places (parent_at a.spots j)) j (eqb (parent_at a.spots j) i) same in
+          ap (λ k. (k && (ltb 0 j && cond (is_node (spot_at a.spots j)) false (not false))) && eqb (parent_at a.spots j) i) kept
+          ∙ (ap (λ k. ((true && test (place_at places j)) && (k && cond (is_node (spot_at a.spots j)) false (not false))) && eqb (parent_at a.spots j) i) (lt-ltb 0 j p)
+          ∙ (ap (λ k. ((true && test (place_at places j)) && (true && k)) && eqb (parent_at a.spots j) i) (prop_if (is_node (spot_at a.spots j)))
+          ∙ (shuffle (test (place_at places j)) (not (is_node (spot_at a.spots j))) (eqb (parent_at a.spots j) i)
+          ∙ ap (λ c. true && (c && test (place_at places j))) (sym child))))
+    ]
 
 twice_by : (b c : Bool) (k m : Place → Bool) (p : Place) (ps : List Place) → k p ≡ b → m p ≡ c → filter (λ q. k q && m q) ps ≡ filter m (filter k ps)
     → cond (b && c) (p ∷ filter (λ q. k q && m q) ps) (filter (λ q. k q && m q) ps) ≡ filter m (cond b (p ∷ filter k ps) (filter k ps))
@@ -241,7 +245,7 @@ children_are places a es l us keep test t keeps i g =
     let w : i < length a.spots = subst (λ m. i < m) t.sound.gone (there_within a.gone i g) in
     ap (map (place_at places)) (kids_are a.spots keep true i w)
     ∙ (filter_shown (is_alive a.gone) (kid_test a.spots keep true i) (place_at places) (λ p. is_child_of (place_at places i) p && test p)
-      (λ j. test_by (is_alive a.gone j) places a keep test i j t.shape t.sound keeps g refl) (range_with_len 0 (length a.spots))
+    (λ j. test_by (is_alive a.gone j) places a keep test i j t.shape t.sound keeps g refl) (range_with_len 0 (length a.spots))
     ∙ (ap (filter (λ p. is_child_of (place_at places i) p && test p)) t.slots ∙ filter_twice (is_child_of (place_at places i)) test (spots us)))
 
 filter_always : (ps : List Place) → filter (λ p. true) ps ≡ ps
@@ -256,7 +260,7 @@ props_are places a es l us keep t keeps i g =
     let w : i < length a.spots = subst (λ m. i < m) t.sound.gone (there_within a.gone i g) in
     ap (map (place_at places)) (kids_are a.spots keep false i w)
     ∙ (filter_shown (is_alive a.gone) (kid_test a.spots keep false i) (place_at places) (λ p. is_prop_of (place_at places i) p && true)
-      (λ j. prop_by (is_alive a.gone j) places a keep (λ p. true) i j t.shape t.sound keeps g refl) (range_with_len 0 (length a.spots))
+    (λ j. prop_by (is_alive a.gone j) places a keep (λ p. true) i j t.shape t.sound keeps g refl) (range_with_len 0 (length a.spots))
     ∙ (ap (filter (λ p. is_prop_of (place_at places i) p && true)) t.slots
     ∙ (filter_twice (is_prop_of (place_at places i)) (λ p. true) (spots us) ∙ filter_always (props us (place_at places i)))))
 
@@ -282,7 +286,7 @@ walks_same zero places a es l us keep test t keeps i g = refl
 walks_same (suc m) places a es l us keep test t keeps i g =
     ap (λ x. place_at places i ∷ x)
     (map_flat places (walk m (below_in (kids_of a.spots keep true))) (walk m (kept_children us test)) (below_in (kids_of a.spots keep true) i)
-      (λ j k. walks_same m places a es l us keep test t keeps j (kid_alive places a keep test true keeps i j k))
+    (λ j k. walks_same m places a es l us keep test t keeps j (kid_alive places a keep test true keeps i j k))
     ∙ ap (flat_map (walk m (kept_children us test))) (children_are places a es l us keep test t keeps i g))
 
 pub shape_rises : (spots : List Spot) (places : List Place) → IsShaped spots places → (j : ℕ) → 0 < j → j < length spots → parent_at spots j < j
@@ -306,8 +310,9 @@ order_is places r b keep test t levels keeps =
 flat_member : (f : ℕ → List ℕ) (is : List ℕ) (j : ℕ) → Member j (flat_map f is) → (i : ℕ) × Member i is × Member j (f i)
 flat_member f [] j m = absurd m
 flat_member f (i ∷ is) j m = elim (member_cases j (f i) (flat_map f is) m) [
-  inl n ↦ (i, inl refl, n)
-  | inr n ↦ let r = flat_member f is j n in (r.0, inr r.1, r.2) ]
+  | inl n ↦ (i, inl refl, n)
+  | inr n ↦ let r = flat_member f is j n in (r.0, inr r.1, r.2)
+]
 
 walk_alive : (m : ℕ) (places : List Place) (a : ArenaData) (keep : List Bool) (test : Place → Bool) → Keeps places a keep test → (i j : ℕ) → is_gone a.gone i ≡ false
     → Member j (walk m (below_in (kids_of a.spots keep true)) i) → is_gone a.gone j ≡ false

@@ -115,11 +115,12 @@ new_by : (b : Bool) (l x : List ℕ) (xs : List (List ℕ)) → list_any (bytes_
     → list_any (bytes_eq l) (cond b xs (xs ++ x ∷ [])) ≡ (list_any (bytes_eq l) xs || bytes_eq l x)
 new_by false l x xs e = list_any-append (bytes_eq l) xs (x ∷ []) ∙ ap (λ b. list_any (bytes_eq l) xs || b) (or_false (bytes_eq l x))
 new_by true l x xs e = elim (cases_Bool (bytes_eq l x)) [
-  inl h ↦
-    let same : l ≡ x = same_bytes l x h in
-    let found : list_any (bytes_eq l) xs ≡ true = subst (λ y. list_any (bytes_eq y) xs ≡ true) (sym same) e in
-    found ∙ sym (or_right (list_any (bytes_eq l) xs) (bytes_eq l x) h)
-  | inr h ↦ sym (ap (λ b. list_any (bytes_eq l) xs || b) h ∙ or_false (list_any (bytes_eq l) xs)) ]
+  | inl h ↦
+      let same : l ≡ x = same_bytes l x h in
+      let found : list_any (bytes_eq l) xs ≡ true = subst (λ y. list_any (bytes_eq y) xs ≡ true) (sym same) e in
+      found ∙ sym (or_right (list_any (bytes_eq l) xs) (bytes_eq l x) h)
+  | inr h ↦ sym (ap (λ b. list_any (bytes_eq l) xs || b) h ∙ or_false (list_any (bytes_eq l) xs))
+]
 
 or_assoc : (a b c : Bool) → ((a || b) || c) ≡ (a || (b || c))
 or_assoc true b c = refl
@@ -151,9 +152,9 @@ shared_is places r us (i ∷ is) seen before t alive same =
     let test : any_seen seen (labels_at (grown_of r) i) ≡ list_any (λ l. list_any (bytes_eq l) before) (labels us (place_at places i)) =
     any_alike (λ l. list_any (bytes_eq l) seen) (λ l. list_any (bytes_eq l) before) (labels_at (grown_of r) i) same ∙ ap (list_any (λ l. list_any (bytes_eq l) before)) ls in
     let more : (l : List ℕ) → list_any (bytes_eq l) (fold (with_new bytes_eq) seen (labels_at (grown_of r) i)) ≡ list_any (bytes_eq l) (before ++ labels us (place_at places i)) = λ l.
-        seen_all l (labels_at (grown_of r) i) seen
-        ∙ (ap (λ b. b || list_any (bytes_eq l) (labels_at (grown_of r) i)) (same l)
-        ∙ (ap (λ xs. list_any (bytes_eq l) before || list_any (bytes_eq l) xs) ls ∙ sym (list_any-append (bytes_eq l) before (labels us (place_at places i))))) in
+    seen_all l (labels_at (grown_of r) i) seen
+    ∙ (ap (λ b. b || list_any (bytes_eq l) (labels_at (grown_of r) i)) (same l)
+    ∙ (ap (λ xs. list_any (bytes_eq l) before || list_any (bytes_eq l) xs) ls ∙ sym (list_any-append (bytes_eq l) before (labels us (place_at places i))))) in
     ap (λ b. option_map (place_at places) (cond b (Some i) (shared_from (grown_of r) (fold (with_new bytes_eq) seen (labels_at (grown_of r) i)) is))) test
     ∙ shared_by (list_any (λ l. list_any (bytes_eq l) before) (labels us (place_at places i))) places i _ _
-      (shared_is places r us is (fold (with_new bytes_eq) seen (labels_at (grown_of r) i)) (before ++ labels us (place_at places i)) t (λ j m. alive j (inr m)) more)
+    (shared_is places r us is (fold (with_new bytes_eq) seen (labels_at (grown_of r) i)) (before ++ labels us (place_at places i)) t (λ j m. alive j (inr m)) more)

@@ -34,8 +34,9 @@ kept_child us keep p c m =
 within_up : (s : Step) (p q : Place) → is_within (s ∷ p) q ≡ true → is_within p q ≡ true
 within_up s p [] h = absurd (false≢true h)
 within_up s p (t ∷ q) h = elim (within_cases (s ∷ p) t q h) [
-  inl e ↦ subst (λ w. is_within p w ≡ true) e (within_more p s p (within_self p))
-  | inr w ↦ within_more p t q (within_up s p q w) ]
+  | inl e ↦ subst (λ w. is_within p w ≡ true) e (within_more p s p (within_self p))
+  | inr w ↦ within_more p t q (within_up s p q w)
+]
 
 too_deep : (s : Step) (p : Place) → is_within (s ∷ p) p ≡ true → ⊥
 too_deep s p h = let l : length (s ∷ p) ≤ length p = within_longer (s ∷ p) p h in omega arith
@@ -44,12 +45,15 @@ too_deep s p h = let l : length (s ∷ p) ≤ length p = within_longer (s ∷ p)
 within_one : (s t : Step) (p q : Place) → is_within (s ∷ p) q ≡ true → is_within (t ∷ p) q ≡ true → s ∷ p ≡ t ∷ p
 within_one s t p [] h k = absurd (false≢true h)
 within_one s t p (u ∷ q) h k = elim (within_cases (s ∷ p) u q h) [
-  inl e ↦ elim (within_cases (t ∷ p) u q k) [
-    inl f ↦ e ∙ sym f
-    | inr w ↦ let same : p ≡ q = cc in absurd (too_deep t p (subst (λ x. is_within (t ∷ p) x ≡ true) (sym same) w)) ]
+  | inl e ↦ elim (within_cases (t ∷ p) u q k) [
+    | inl f ↦ e ∙ sym f
+    | inr w ↦ let same : p ≡ q = cc in absurd (too_deep t p (subst (λ x. is_within (t ∷ p) x ≡ true) (sym same) w))
+  ]
   | inr v ↦ elim (within_cases (t ∷ p) u q k) [
-    inl f ↦ let same : p ≡ q = cc in absurd (too_deep s p (subst (λ x. is_within (s ∷ p) x ≡ true) (sym same) v))
-    | inr w ↦ within_one s t p q v w ] ]
+    | inl f ↦ let same : p ≡ q = cc in absurd (too_deep s p (subst (λ x. is_within (s ∷ p) x ≡ true) (sym same) v))
+    | inr w ↦ within_one s t p q v w
+  ]
+]
 
 child_within : (p c q : Place) → is_child_of p c ≡ true → is_within c q ≡ true → is_within p q ≡ true
 child_within p c q h w = let r = child_is p c h in within_up (Child r.0) p q (subst (λ x. is_within x q ≡ true) r.1 w)
@@ -77,14 +81,15 @@ no_child p c h w = let r = child_is p c h in too_deep (Child r.0) p (subst (λ x
 
 pub walk_apart : (m : ℕ) (us : List Deed) (keep : Place → Bool) (p : Place) → Apart (walk_from m us keep p)
 walk_apart zero us keep p = tt
-walk_apart (suc k) us keep p =
-    (λ m.
-    let r = flat_member (walk_from k us keep) (kept_children us keep p) p m in
-    no_child p r.0 (kept_child us keep p r.0 r.1).1 (walk_within k us keep r.0 p r.2),
-    apart_flat (walk_from k us keep) (kept_children us keep p) (apart_filter keep (children us p) (apart_filter (is_child_of p) (spots us) (spots_apart us)))
-    (λ c m. walk_apart k us keep c)
-    (λ c d q m n v w.
-    one_child p c d q (kept_child us keep p c m).1 (kept_child us keep p d n).1 (walk_within k us keep c q v) (walk_within k us keep d q w)))
+walk_apart (suc k) us keep p = (
+  λ m.
+      let r = flat_member (walk_from k us keep) (kept_children us keep p) p m in
+      no_child p r.0 (kept_child us keep p r.0 r.1).1 (walk_within k us keep r.0 p r.2),
+  apart_flat (walk_from k us keep) (kept_children us keep p) (apart_filter keep (children us p) (apart_filter (is_child_of p) (spots us) (spots_apart us)))
+      (λ c m. walk_apart k us keep c)
+      (λ c d q m n v w.
+      one_child p c d q (kept_child us keep p c m).1 (kept_child us keep p d n).1 (walk_within k us keep c q v) (walk_within k us keep d q w)),
+)
 
 -- ---- none without its parent
 
@@ -109,12 +114,19 @@ walk_known (suc k) us keep p q (inr m) =
     let c : Place = r.0 in
     let known = kept_child us keep p c r.1 in
     elim (walk_known k us keep c q r.2) [
-      inl e ↦
-        let s = child_is p c known.1 in
-        inr (record { name = s.0; up = p; place = e ∙ s.1; walked_up = inl refl; there = subst (λ x. Member x (spots us)) (sym e) known.0; kept = ap keep e ∙ known.2 })
+      | inl e ↦
+          let s = child_is p c known.1 in
+          inr (record { name = s.0; up = p; place = e ∙ s.1; walked_up = inl refl; there = subst (λ x. Member x (spots us)) (sym e) known.0; kept = ap keep e ∙ known.2 })
       | inr b ↦
-        inr (record { name = b.name; up = b.up; place = b.place;
-        walked_up = inr (member_flat (walk_from k us keep) (kept_children us keep p) c b.up r.1 b.walked_up); there = b.there; kept = b.kept }) ]
+          inr (record {
+            name = b.name;
+            up = b.up;
+            place = b.place;
+            walked_up = inr (member_flat (walk_from k us keep) (kept_children us keep p) c b.up r.1 b.walked_up);
+            there = b.there;
+            kept = b.kept;
+          })
+    ]
 
 -- the walk over the kept nodes comes to nodes that the walk over all comes to
 pub walk_less : (m : ℕ) (us : List Deed) (keep : Place → Bool) (p q : Place) → Member q (walk_from m us keep p) → Member q (walk_from m us always p)
@@ -145,8 +157,9 @@ follow_list : (f : Place → List Place) (p : Place) (cs : List Place) (before :
 follow_list f p [] before g w h = tt
 follow_list f p (c ∷ cs) before g w h =
     follow_append (f c) (flat_map f cs) before (g c before (inl refl) h) (λ z m. follow_list f p cs z (λ d b n. g d b (inr n)) (λ d y n. w d y (inr n)) (elim m [
-      inl e ↦ subst (λ x. is_within p x ≡ true) (sym e) h
-      | inr n ↦ w c z (inl refl) n ]))
+      | inl e ↦ subst (λ x. is_within p x ≡ true) (sym e) h
+      | inr n ↦ w c z (inl refl) n
+    ]))
 
 next_child : (p c before : Place) → is_child_of p c ≡ true → is_within p before ≡ true → IsNext before c
 next_child p c before h w = let r = child_is p c h in subst (λ x. IsNext before x) (sym r.1) w

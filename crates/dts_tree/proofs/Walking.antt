@@ -63,20 +63,22 @@ all_reverse f (x ∷ xs) h =
 
 at_end : (n : ℕ) (waiting w : List ℕ) (id : ℕ) → waiting ≡ w ++ id ∷ [] → list_all (λ c. ltb c n) waiting ≡ true → (id < n) × (list_all (λ c. ltb c n) w ≡ true)
 at_end n waiting w id whole h =
-    let both : list_all (λ c. ltb c n) (w ++ id ∷ []) ≡ true = subst (λ xs. list_all (λ c. ltb c n) xs ≡ true) whole h in
-    (ltb-true id n (all_at (λ c. ltb c n) (w ++ id ∷ []) id both (member_right id w (id ∷ []) (inl refl))),
-    all_from (λ c. ltb c n) w (λ x m. all_at (λ c. ltb c n) (w ++ id ∷ []) x both (member_left x w (id ∷ []) m)))
+    let both : list_all (λ c. ltb c n) (w ++ id ∷ []) ≡ true = subst (λ xs. list_all (λ c. ltb c n) xs ≡ true) whole h in (
+      ltb-true id n (all_at (λ c. ltb c n) (w ++ id ∷ []) id both (member_right id w (id ∷ []) (inl refl))),
+      all_from (λ c. ltb c n) w (λ x m. all_at (λ c. ltb c n) (w ++ id ∷ []) x both (member_left x w (id ∷ []) m)),
+    )
 
 pub walk_turn : (lists : List (List ℕ)) → AreRising lists → (out put waiting w next : List ℕ) (id : ℕ) → waiting ≡ w ++ id ∷ [] → put ≡ out ++ id ∷ []
     → next ≡ w ++ reverse (below_in lists id) → out ++ flat_map (walk_at lists) (reverse waiting) ≡ order_of lists → list_all (λ c. ltb c (length lists)) waiting ≡ true
     → (put ++ flat_map (walk_at lists) (reverse next) ≡ order_of lists) × (list_all (λ c. ltb c (length lists)) next ≡ true)
 walk_turn lists r out put waiting w next id whole more rest h b =
-    let low = at_end (length lists) waiting w id whole b in
-    (ap (λ t. t ++ flat_map (walk_at lists) (reverse next)) more
-    ∙ (append_assoc out (id ∷ []) (flat_map (walk_at lists) (reverse next))
-    ∙ (ap (λ t. out ++ t) (sym (turned lists r waiting w next id whole rest low.0)) ∙ h)),
-    subst (λ xs. list_all (λ c. ltb c (length lists)) xs ≡ true) (sym rest)
-    (all_append (λ c. ltb c (length lists)) w (reverse (below_in lists id)) low.1 (all_reverse (λ c. ltb c (length lists)) (below_in lists id) (r.within id))))
+    let low = at_end (length lists) waiting w id whole b in (
+      ap (λ t. t ++ flat_map (walk_at lists) (reverse next)) more
+          ∙ (append_assoc out (id ∷ []) (flat_map (walk_at lists) (reverse next))
+          ∙ (ap (λ t. out ++ t) (sym (turned lists r waiting w next id whole rest low.0)) ∙ h)),
+      subst (λ xs. list_all (λ c. ltb c (length lists)) xs ≡ true) (sym rest)
+          (all_append (λ c. ltb c (length lists)) w (reverse (below_in lists id)) low.1 (all_reverse (λ c. ltb c (length lists)) (below_in lists id) (r.within id))),
+    )
 
 pub walk_less : (lists : List (List ℕ)) → AreRising lists → (waiting w next : List ℕ) (id : ℕ) → waiting ≡ w ++ id ∷ []
     → next ≡ w ++ reverse (below_in lists id) → list_all (λ c. ltb c (length lists)) waiting ≡ true

@@ -196,8 +196,15 @@ below_from first (d ∷ ds) i = if holds_number i d.parent then first ∷ below_
 
 abbrev pub node_of : DraftData → List (List ℕ × List Part) → List ℕ → NodeData
 node_of d props children = record {
-    name = d.name; path = d.path; parent = d.parent; children = children; labels = d.labels; props = props;
-    compats = unwrap_or (compats_of props) []; status = unwrap_or (status_of props) [] }
+  name = d.name;
+  path = d.path;
+  parent = d.parent;
+  children = children;
+  labels = d.labels;
+  props = props;
+  compats = unwrap_or (compats_of props) [];
+  status = unwrap_or (status_of props) [];
+}
 
 -- the nodes of drafts with these properties
 unfoldable pub nodes_of : List DraftData → List (List (List ℕ × List Part)) → List NodeData
@@ -205,6 +212,7 @@ nodes_of ds props = map (λ (e : ℕ × DraftData). node_of e.1 (slice_index_or 
 
 unfoldable pub tree_of : List DraftData → TreeData
 tree_of ds = record {
-    nodes = nodes_of ds (all_props ds);
-    aliases = filter_map (naming_prop ds) (props_at ds (all_props ds) (codes "/aliases"));
-    chosen = filter_map (naming_prop ds) (props_at ds (all_props ds) (codes "/chosen")) }
+  nodes = nodes_of ds (all_props ds);
+  aliases = filter_map (naming_prop ds) (props_at ds (all_props ds) (codes "/aliases"));
+  chosen = filter_map (naming_prop ds) (props_at ds (all_props ds) (codes "/chosen"));
+}

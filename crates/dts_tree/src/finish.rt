@@ -123,7 +123,11 @@ fn first_dangling(drafts: &[Draft]) -> Option<&Draft>
 fn dangles(draft: &Draft) -> bool
     ensures { result ≡ dangles draft.now }
 {
-    draft.props.as_slice().iter().any(|prop| value_dangles(prop.parts.as_slice()))
+    draft
+        .props
+        .as_slice()
+        .iter()
+        .any(|prop| value_dangles(prop.parts.as_slice()))
 }
 
 fn value_dangles(parts: &[DraftPart]) -> bool

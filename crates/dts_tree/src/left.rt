@@ -37,7 +37,11 @@ pub(crate) fn left(alloc: Global, reader: &Reader<'_>) -> Result<Vec<Draft>, End
     }
 }
 
-fn known<'r, 'a>(alloc: Global, reader: &'r Reader<'a>, keep: &[bool]) -> Result<Known<'r, 'a>, AllocError>
+fn known<'r, 'a>(
+    alloc: Global,
+    reader: &'r Reader<'a>,
+    keep: &[bool],
+) -> Result<Known<'r, 'a>, AllocError>
     requires { keep.now ≡ keep_of reader.now }
     ensures finder { IfOk result (λ k. k.finder ≡ reader.now) }
     ensures grown { IfOk result (λ k. k.grown ≡ grown_of reader.now) }

@@ -28,7 +28,11 @@ pub(crate) fn paths_of<'a>(
 {
     let mut paths = BTreeMap::new(alloc);
     for (place, draft) in drafts.iter().enumerate() {
-        note(&mut paths, draft.path.as_str().as_bytes(), NodeId(place as u32))?;
+        note(
+            &mut paths,
+            draft.path.as_str().as_bytes(),
+            NodeId(place as u32),
+        )?;
     }
     Ok(paths)
 }
@@ -52,11 +56,7 @@ fn note<'a>(
 }
 
 /// The properties of the node of a path.
-fn props_at<'p>(
-    paths: &BTreeMap<&[u8], NodeId>,
-    all: &'p [Props],
-    path: &str,
-) -> Option<&'p Props>
+fn props_at<'p>(paths: &BTreeMap<&[u8], NodeId>, all: &'p [Props], path: &str) -> Option<&'p Props>
     ensures { props_or_none (option_map (λ p. p.now) result) ≡ props_found (finder paths.now) all.now path.now }
 {
     let place = paths.get(path.as_bytes())?;
@@ -64,11 +64,7 @@ fn props_at<'p>(
 }
 
 /// Whether a property of the node of a path names no node.
-pub(crate) fn is_one_nameless_at(
-    paths: &BTreeMap<&[u8], NodeId>,
-    all: &[Props],
-    path: &str,
-) -> bool
+pub(crate) fn is_one_nameless_at(paths: &BTreeMap<&[u8], NodeId>, all: &[Props], path: &str) -> bool
     ensures { result ≡ list_any (λ (p : List ℕ × List Part). is_none (named_with (finder paths.now) p.1)) (props_found (finder paths.now) all.now path.now) }
 {
     match props_at(paths, all, path) {

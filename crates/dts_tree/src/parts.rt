@@ -189,7 +189,12 @@ fn part_draft(
             kind: part.kind,
             bytes: part.bytes.copy(alloc)?,
         })),
-        RawPart::Cells(cells) => Ok(DraftPart::Mixed(cells_of(alloc, finder, places, cells.as_slice())?)),
+        RawPart::Cells(cells) => Ok(DraftPart::Mixed(cells_of(
+            alloc,
+            finder,
+            places,
+            cells.as_slice(),
+        )?)),
         RawPart::Path(target) => Ok(DraftPart::PathTo(number_of(alloc, finder, places, target)?)),
     }
 }

@@ -53,7 +53,13 @@ pub(crate) fn first_large(
     ensures { IfOk result (λ o. o ≡ first_large_slot known.now.finder known.now.grown lens.now known.now.props.items slots.now) }
 {
     for slot in slots {
-        if has_large(alloc, &known.finder, &known.grown, below(known.props.as_slice(), *slot), lens)? {
+        if has_large(
+            alloc,
+            &known.finder,
+            &known.grown,
+            below(known.props.as_slice(), *slot),
+            lens,
+        )? {
             return Ok(Some(*slot));
         }
     }
@@ -163,7 +169,9 @@ pub(crate) fn stays_list(
 ) -> Result<Vec<bool>, AllocError>
     ensures { IfOk result (λ v. v.items ≡ stays_list keep.now marks.now wanted.now) }
 {
-    (0..keep.len()).map(|slot| stays_at(keep, marks, wanted, slot)).collect(alloc)
+    (0..keep.len())
+        .map(|slot| stays_at(keep, marks, wanted, slot))
+        .collect(alloc)
 }
 
 fn stays_at(keep: &[bool], marks: &[bool], wanted: &[bool], slot: usize) -> bool
@@ -182,7 +190,13 @@ pub(crate) fn want_nodes(
     ensures { OnOk result (marks.new.items ≡ wanted_from known.now.finder known.now.grown known.now.props.items marks.old.items slots.now) }
 {
     for slot in slots {
-        want_props(alloc, &known.finder, &known.grown, marks, below(known.props.as_slice(), *slot))?;
+        want_props(
+            alloc,
+            &known.finder,
+            &known.grown,
+            marks,
+            below(known.props.as_slice(), *slot),
+        )?;
     }
     Ok(())
 }

@@ -192,11 +192,7 @@ fn number(numbers: &[Option<u32>], cell: &DraftCell) -> u32
 }
 
 // The path of a node with a zero after it.
-fn path_bytes(
-    alloc: Global,
-    drafts: &[Draft],
-    place: Option<usize>,
-) -> Result<Bytes, AllocError>
+fn path_bytes(alloc: Global, drafts: &[Draft], place: Option<usize>) -> Result<Bytes, AllocError>
     ensures { IfOk result (λ b. b ≡ path_at drafts.now place ++ 0 ∷ []) }
 {
     let mut bytes = Vec::from_slice(alloc, path_of(drafts, place).as_bytes())?;

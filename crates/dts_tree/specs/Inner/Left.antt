@@ -53,8 +53,12 @@ node_parent spots places i = if nat_eq i 0 then None else placed_at places (slot
 
 abbrev pub slot_draft : ReaderData → GrownData → List (List ℕ) → List (Option ℕ) → ℕ → DraftData
 slot_draft r g props places i = record {
-    name = node_name r.arena.spots i; path = or_slash (text_of r.arena.spots i); parent = node_parent r.arena.spots places i;
-    labels = labels_at g i; props = map (slot_prop r g places) (below_in props i) }
+  name = node_name r.arena.spots i;
+  path = or_slash (text_of r.arena.spots i);
+  parent = node_parent r.arena.spots places i;
+  labels = labels_at g i;
+  props = map (slot_prop r g places) (below_in props i);
+}
 
 abbrev pub slot_drafts : ReaderData → GrownData → List (List ℕ) → List ℕ → List DraftData
 slot_drafts r g props slots = map (slot_draft r g props (places_of (length r.arena.spots) slots)) slots
