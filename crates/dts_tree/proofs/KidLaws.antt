@@ -87,9 +87,9 @@ more_by (Some p) ds i d n l at up =
     same_lists (set (lists_of (take i ds) n) p (get_or (lists_of (take i ds) n) p [] ++ i ∷ [])) (lists_of (take (i + 1) ds) n)
     (long ∙ sym (lists_long (take (i + 1) ds) n))
     (λ k e low.
-        let kn : k < n = subst (λ m. k < m) long low in
-        get_or_default (set (lists_of (take i ds) n) p (get_or (lists_of (take i ds) n) p [] ++ i ∷ [])) k e [] low
-        ∙ (child_at ds i d n p k l at up kn ∙ sym (list_at (take (i + 1) ds) n k e kn)))
+    let kn : k < n = subst (λ m. k < m) long low in
+    get_or_default (set (lists_of (take i ds) n) p (get_or (lists_of (take i ds) n) p [] ++ i ∷ [])) k e [] low
+    ∙ (child_at ds i d n p k l at up kn ∙ sym (list_at (take (i + 1) ds) n k e kn)))
 
 -- the children of each, with one draft more
 pub child_more : (ds : List DraftData) (i : ℕ) (d : DraftData) (n : ℕ) → i < length ds → d ≡ get_or ds i d

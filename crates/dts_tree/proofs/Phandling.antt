@@ -64,6 +64,7 @@ single_by (draft.Num m ∷ []) n h ns l =
     number_by : (b : Bool) (m n : ℕ) → cond b (Some m) None ≡ Some n → m ≡ n
     number_by true m n h = same_Some m n h
     number_by false m n h = absurd (none-some n h)
+
     number_same : (m n : ℕ) → cell_phandle (draft.Num m) ≡ Some n → m ≡ n
     number_same m n h = number_by (nat_le 1 m && nat_le m 4294967294) m n h
 single_by (draft.Ref r ∷ []) n h ns l = absurd (none-some n h)
