@@ -4,7 +4,8 @@ use Rattle.std.specs.List.{list_any}
 use Rattle.dts_parse.specs.StmtData.{ActData, Open, Close, Label, Assign, DelProp, DelNode, Omit}
 use Rattle.dts_tree.specs.Places.{Place, is_within}
 
--- a statement's act, and the place that it speaks of: the node that it opens, labels, marks or deletes, or the property that it writes or deletes
+-- a statement's act, and the place that it speaks of: the node that it opens, labels, marks or deletes, or the
+-- property that it writes or deletes
 pub record Deed : Type 0 where
   pub at : Place
   pub act : ActData
@@ -28,4 +29,5 @@ covers d e = deletes d.act && is_within d.at e.at
 -- of deeds in order, those that are no deletions and that no later one covers
 abbrev pub uncovered : List Deed → List Deed
 uncovered [] = []
-uncovered (e ∷ later) = if deletes e.act || list_any (λ d. covers d e) later then uncovered later else e ∷ uncovered later
+uncovered (e ∷ later) =
+    if deletes e.act || list_any (λ d. covers d e) later then uncovered later else e ∷ uncovered later

@@ -14,7 +14,8 @@ use Rattle.dts_tree.specs.Live.{props, value, labels, node_of}
 use Rattle.dts_tree.specs.Reading.{Before, live}
 use Rattle.dts_tree.specs.Whole.{kept}
 
--- a part: bytes as they were written, cells, or the path of a node; a reference is the place of a node among the drafts, or none
+-- a part: bytes as they were written, cells, or the path of a node; a reference is the place of a node among the
+-- drafts, or none
 pub data DraftPartData : Type 0 where
   Ready : Part → DraftPartData
   Mixed : List DraftCell → DraftPartData
@@ -51,7 +52,14 @@ parent_number ps [] = None
 parent_number ps (s ∷ p) = number_in ps p
 
 abbrev pub node_draft : List Deed → List Place → Place → DraftData
-node_draft us ps p = record { name = name_of p; path = path_text p; parent = parent_number ps p; labels = labels us p; props = map (prop_draft us ps) (props us p) }
+node_draft us ps p =
+    record {
+      name = name_of p;
+      path = path_text p;
+      parent = parent_number ps p;
+      labels = labels us p;
+      props = map (prop_draft us ps) (props us p);
+    }
 
 abbrev pub drafts_of : List Deed → List Place → List DraftData
 drafts_of us ps = map (node_draft us ps) ps

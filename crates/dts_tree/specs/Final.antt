@@ -1,5 +1,7 @@
 -- The final tree: phandles for nodes that cells refer to, values in bytes, and what is read from properties.
-use Rattle.std.specs.Prelude.{ℕ, ◌+◌, ◌-◌, Bool, true, false, ◌&&◌, not, List, [], ◌∷◌, ◌++◌, Option, Some, None, length, map, fold, find, position, take, codes, is_some, is_none, slice_get, slice_index_or, slice_set, nat_le, unwrap_or, if◌then◌else◌}
+use Rattle.std.specs.Prelude.{ℕ, ◌+◌, ◌-◌, Bool, true, false, ◌&&◌, not, List, [], ◌∷◌, ◌++◌, Option, Some, None}
+use Rattle.std.specs.Prelude.{length, map, fold, find, position, take, codes, is_some, is_none, slice_get}
+use Rattle.std.specs.Prelude.{slice_index_or, slice_set, nat_le, unwrap_or, if◌then◌else◌}
 use Rattle.std.specs.Option.{option_and_then, option_map, option_map_or, option_to_list}
 use Rattle.std.specs.List.{list_any, filter_map, flat_map, range_with_len, enumerate_from}
 use Rattle.std.specs.Str.{bytes_eq}
@@ -85,7 +87,8 @@ least_free numbers = unwrap_or (find (λ n. not (is_taken numbers n)) (range_wit
 
 -- a node that a cell refers to gets the least free number where it has none
 abbrev pub given_to : List (Option ℕ) → ℕ → List (Option ℕ)
-given_to numbers i = if is_some (slice_index_or numbers i None) then numbers else slice_set numbers i (Some (least_free numbers))
+given_to numbers i =
+    if is_some (slice_index_or numbers i None) then numbers else slice_set numbers i (Some (least_free numbers))
 
 -- each node's phandle, where it has one
 unfoldable pub phandles : List DraftData → List (Option ℕ)
@@ -107,7 +110,8 @@ path_at ds (Some i) = option_map_or (λ (d : DraftData). d.path) (slice_get ds i
 
 abbrev pub part_of : List DraftData → List (Option ℕ) → DraftPartData → Part
 part_of ds numbers (Ready p) = p
-part_of ds numbers (Mixed cells) = record { kind = kind.Cells; bytes = flat_map (λ c. cell_bytes (cell_value numbers c)) cells }
+part_of ds numbers (Mixed cells) =
+    record { kind = kind.Cells; bytes = flat_map (λ c. cell_bytes (cell_value numbers c)) cells }
 part_of ds numbers (PathTo r) = record { kind = kind.Path; bytes = path_at ds r ++ 0 ∷ [] }
 
 abbrev pub prop_value : List DraftData → List (Option ℕ) → List ℕ × List DraftPartData → List ℕ × List Part
@@ -137,7 +141,9 @@ okay_for_ok text = if bytes_eq text (codes "ok") then codes "okay" else text
 
 -- the string of `status`, or none where it is no string; `ok` and no status are `okay`
 abbrev pub status_of : List (List ℕ × List Part) → Option (List ℕ)
-status_of props = option_map_or (λ parts. option_map okay_for_ok (value_string parts)) (prop_of (codes "status") props) (Some (codes "okay"))
+status_of props =
+    option_map_or (λ parts. option_map okay_for_ok (value_string parts)) (prop_of (codes "status") props)
+    (Some (codes "okay"))
 
 -- ---- nodes that properties name
 
@@ -177,7 +183,8 @@ naming_prop ds p = naming_with (node_at ds) p
 
 -- each node's properties, where the nodes have these phandles
 abbrev pub props_with : List DraftData → List (Option ℕ) → List (List (List ℕ × List Part))
-props_with ds numbers = map (λ (e : ℕ × DraftData). props_of ds numbers e.1 (slice_index_or numbers e.0 None)) (enumerate_from 0 ds)
+props_with ds numbers =
+    map (λ (e : ℕ × DraftData). props_of ds numbers e.1 (slice_index_or numbers e.0 None)) (enumerate_from 0 ds)
 
 unfoldable pub all_props : List DraftData → List (List (List ℕ × List Part))
 all_props ds = props_with ds (phandles ds)
@@ -192,7 +199,8 @@ props_at ds props path = props_found (node_at ds) props path
 -- the places of the drafts whose parent has this place, where the first of these has this one
 abbrev pub below_from : ℕ → List DraftData → ℕ → List ℕ
 below_from first [] i = []
-below_from first (d ∷ ds) i = if holds_number i d.parent then first ∷ below_from (first + 1) ds i else below_from (first + 1) ds i
+below_from first (d ∷ ds) i =
+    if holds_number i d.parent then first ∷ below_from (first + 1) ds i else below_from (first + 1) ds i
 
 abbrev pub node_of : DraftData → List (List ℕ × List Part) → List ℕ → NodeData
 node_of d props children = record {
@@ -208,7 +216,8 @@ node_of d props children = record {
 
 -- the nodes of drafts with these properties
 unfoldable pub nodes_of : List DraftData → List (List (List ℕ × List Part)) → List NodeData
-nodes_of ds props = map (λ (e : ℕ × DraftData). node_of e.1 (slice_index_or props e.0 []) (below_from 0 ds e.0)) (enumerate_from 0 ds)
+nodes_of ds props =
+    map (λ (e : ℕ × DraftData). node_of e.1 (slice_index_or props e.0 []) (below_from 0 ds e.0)) (enumerate_from 0 ds)
 
 unfoldable pub tree_of : List DraftData → TreeData
 tree_of ds = record {

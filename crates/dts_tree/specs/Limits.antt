@@ -30,7 +30,9 @@ is_large us p = list_any (λ q. nat_lt 65536 (value_size us (value us q))) (prop
 -- the first node with a label that an earlier one has, where these labels were seen before
 abbrev pub first_shared : List Deed → List (List ℕ) → List Place → Option Place
 first_shared us seen [] = None
-first_shared us seen (p ∷ ps) = if list_any (λ l. list_any (bytes_eq l) seen) (labels us p) then Some p else first_shared us (seen ++ labels us p) ps
+first_shared us seen (p ∷ ps) =
+    if list_any (λ l. list_any (bytes_eq l) seen) (labels us p) then Some p
+    else first_shared us (seen ++ labels us p) ps
 
 abbrev pub first_large : Before → Option Place
 first_large b = find (is_large (live b)) (whole b)

@@ -37,7 +37,8 @@ done_at b at act None within = Err at
 done_at b at act (Some p) within = Ok (record { deeds = b.deeds ++ deed p act ∷ []; within = within p })
 
 abbrev pub opening : Before → ℕ → ActData → Target → Result Before ℕ
-opening b at act (target.Child n) = Ok (record { deeds = b.deeds ++ deed (Child n ∷ here b) act ∷ []; within = b.within ++ (Child n ∷ here b) ∷ [] })
+opening b at act (target.Child n) =
+    Ok (record { deeds = b.deeds ++ deed (Child n ∷ here b) act ∷ []; within = b.within ++ (Child n ∷ here b) ∷ [] })
 opening b at act target.Root = done_at b at act (node_of (live b) target.Root) (λ p. p ∷ [])
 opening b at act (target.ByLabel l) = done_at b at act (node_of (live b) (target.ByLabel l)) (λ p. p ∷ [])
 opening b at act (target.ByPath t) = done_at b at act (node_of (live b) (target.ByPath t)) (λ p. p ∷ [])
@@ -76,4 +77,6 @@ pub record Unnamed : Type 0 where
 -- behind the statements of all sources, the first of which has this place among them
 abbrev pub read_all : ℕ → Before → List (List StmtData) → Result Before Unnamed
 read_all first b [] = Ok b
-read_all first b (s ∷ rest) = elim (read_on (record b { within = [] }) s) [ Ok next ↦ read_all (first + 1) next rest | Err at ↦ Err (record { source = first; at = at }) ]
+read_all first b (s ∷ rest) =
+    elim (read_on (record b { within = [] }) s)
+    [ Ok next ↦ read_all (first + 1) next rest | Err at ↦ Err (record { source = first; at = at }) ]

@@ -1,5 +1,6 @@
 -- The rules of the final tree, each with the first node that breaks it.
-use Rattle.std.specs.Prelude.{ℕ, Bool, true, false, ◌&&◌, ◌||◌, List, [], ◌∷◌, ◌++◌, Option, Some, None, map, codes, is_some, is_none, if◌then◌else◌}
+use Rattle.std.specs.Prelude.{ℕ, Bool, true, false, ◌&&◌, ◌||◌, List, [], ◌∷◌, ◌++◌, Option, Some, None, map, codes}
+use Rattle.std.specs.Prelude.{is_some, is_none, if◌then◌else◌}
 use Rattle.std.specs.Option.{option_map_or}
 use Rattle.std.specs.List.{list_any}
 use Rattle.edt_base.specs.declared.node.Part.{Part}
@@ -23,16 +24,19 @@ dangles d = list_any (λ (p : List ℕ × List DraftPartData). list_any part_dan
 
 -- a property `phandle` that is no phandle, or one that an earlier node has
 abbrev pub is_bad_phandle : List DraftData → DraftData → Bool
-is_bad_phandle earlier d = is_some (draft_prop phandle_name d.props) && option_map_or (is_taken (map written earlier)) (written d) true
+is_bad_phandle earlier d =
+    is_some (draft_prop phandle_name d.props) && option_map_or (is_taken (map written earlier)) (written d) true
 
 -- the first node with such a property, where these stand before
 abbrev pub first_bad_phandle : List DraftData → List DraftData → Option DraftData
 first_bad_phandle earlier [] = None
-first_bad_phandle earlier (d ∷ ds) = if is_bad_phandle earlier d then Some d else first_bad_phandle (earlier ++ d ∷ []) ds
+first_bad_phandle earlier (d ∷ ds) =
+    if is_bad_phandle earlier d then Some d else first_bad_phandle (earlier ++ d ∷ []) ds
 
 -- a property of `/aliases` that isn't one text or path that names a node
 abbrev pub has_bad_alias : List DraftData → List (List (List ℕ × List Part)) → Bool
-has_bad_alias ds props = list_any (λ (p : List ℕ × List Part). is_none (named_by ds p.1)) (props_at ds props (codes "/aliases"))
+has_bad_alias ds props =
+    list_any (λ (p : List ℕ × List Part). is_none (named_by ds p.1)) (props_at ds props (codes "/aliases"))
 
 -- `compatible` is no list of strings, or `status` is no string
 abbrev pub is_mistyped : List (List ℕ × List Part) → Bool

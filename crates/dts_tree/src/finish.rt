@@ -3,7 +3,8 @@
 ghost use Rattle.std.specs.Prelude.{◌≡◌, ◌≤◌, None, IfOk, codes, find, length, map, option_map};
 ghost use Rattle.std.specs.List.{filter_map, list_any};
 ghost use Rattle.dts_tree.specs.Final.{all_props, naming_prop, props_at, tree_of};
-ghost use Rattle.dts_tree.specs.Rules.{cell_dangles, dangles, first_bad_phandle, first_mistyped, has_bad_alias, part_dangles};
+ghost use Rattle.dts_tree.specs.Rules.{cell_dangles, dangles, first_bad_phandle, first_mistyped};
+ghost use Rattle.dts_tree.specs.Rules.{has_bad_alias, part_dangles};
 ghost use Rattle.dts_tree.specs.Outcome.{numbered_or, settled};
 ghost use Rattle.dts_tree.specs.References.{Answers};
 ghost use Rattle.dts_tree.specs.Inner.DraftForm.{draft_part_data};
@@ -73,9 +74,11 @@ struct Named {
 fn names(alloc: Global, drafts: &[Draft], all: &[Props]) -> Result<Named, AllocError>
     requires { length drafts.now ≤ 65535 }
     ensures aliases { IfOk result
-        (λ n. n.aliases.items ≡ filter_map (naming_prop drafts.now) (props_at drafts.now all.now (codes "/aliases"))) }
+        (λ n. n.aliases.items ≡ filter_map (naming_prop drafts.now)
+        (props_at drafts.now all.now (codes "/aliases"))) }
     ensures chosen { IfOk result
-        (λ n. n.chosen.items ≡ filter_map (naming_prop drafts.now) (props_at drafts.now all.now (codes "/chosen"))) }
+        (λ n. n.chosen.items ≡ filter_map (naming_prop drafts.now)
+        (props_at drafts.now all.now (codes "/chosen"))) }
     ensures nameless { IfOk result (λ n. n.is_one_nameless ≡ has_bad_alias drafts.now all.now) }
 {
     let paths = paths_of(alloc, drafts)?;
@@ -98,9 +101,11 @@ fn tree(
     requires numbered { AreNumbered drafts.items }
     requires props { all.items ≡ all_props drafts.items }
     requires aliases { names.aliases.items
-        ≡ filter_map (naming_prop drafts.items) (props_at drafts.items (all_props drafts.items) (codes "/aliases")) }
+        ≡ filter_map (naming_prop drafts.items)
+        (props_at drafts.items (all_props drafts.items) (codes "/aliases")) }
     requires chosen { names.chosen.items
-        ≡ filter_map (naming_prop drafts.items) (props_at drafts.items (all_props drafts.items) (codes "/chosen")) }
+        ≡ filter_map (naming_prop drafts.items)
+        (props_at drafts.items (all_props drafts.items) (codes "/chosen")) }
     ensures { IfOk result (λ t. t ≡ tree_of drafts.items) }
 {
     let children = children_of(alloc, drafts.as_slice())?;

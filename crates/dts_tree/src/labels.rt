@@ -64,7 +64,8 @@ impl Labels {
     }
 
     fn push_known(&mut self, number: usize, slot: usize) -> Result<(), AllocError>
-        ensures { OnOk result (self.new ≡ record self.old { stacks = pushed self.old.stacks number slot }) }
+        ensures { OnOk result (self.new
+            ≡ record self.old { stacks = pushed self.old.stacks number slot }) }
     {
         match self.stacks.get_mut(number) {
             Some(stack) => stack.push(slot),

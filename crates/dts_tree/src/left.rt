@@ -74,7 +74,9 @@ fn labelled(
     requires props { known.now.props.items ≡ prop_lists known.now.finder }
     requires keep { keep.now ≡ keep_of known.now.finder }
     requires whole { whole.now ≡ whole_slots known.now.finder }
-    ensures { AnswersAs result (λ v. v.items) (shared_or known.now.finder (shared_from (grown_of known.now.finder) [] (whole_slots known.now.finder))) }
+    ensures { AnswersAs result (λ v. v.items)
+        (shared_or known.now.finder
+        (shared_from (grown_of known.now.finder) [] (whole_slots known.now.finder))) }
 {
     match first_label_shared(alloc, &known.grown, whole)? {
         Some(slot) => Err(fault_at(alloc, Rule::S4, known.finder.spots(), slot)?),

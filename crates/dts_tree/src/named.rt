@@ -9,7 +9,8 @@ ghost use Rattle.std.specs.Ordering.{nat_cmp};
 ghost use Rattle.std.specs.Cmp.Lexicographic.{slice_cmp};
 ghost use Rattle.std.specs.Str.{bytes_eq};
 ghost use Rattle.edt_base.specs.declared.node.Part.{Part};
-ghost use Rattle.dts_tree.specs.Final.{before_last, spells_path, named_with, naming_with, props_found};
+ghost use Rattle.dts_tree.specs.Final.{before_last, spells_path, named_with, naming_with};
+ghost use Rattle.dts_tree.specs.Final.{props_found};
 ghost use Rattle.dts_tree.specs.Inner.Naming.{AreFound, finder, props_or_none};
 
 use crate::draft::Draft;
@@ -44,7 +45,8 @@ fn note<'a>(
     place: NodeId,
 ) -> Result<(), AllocError>
     ensures { OnOk result ((q : List ℕ) → get_by (λ k. slice_cmp nat_cmp q k.now) paths.new
-        ≡ option_or (get_by (λ k. slice_cmp nat_cmp q k.now) paths.old) (if bytes_eq path.now q then Some place else None)) }
+        ≡ option_or (get_by (λ k. slice_cmp nat_cmp q k.now) paths.old)
+        (if bytes_eq path.now q then Some place else None)) }
 {
     if paths.contains_key(path) {
         return Ok(());
@@ -65,7 +67,9 @@ fn props_at<'p>(paths: &BTreeMap<&[u8], NodeId>, all: &'p [Props], path: &str) -
 
 /// Whether a property of the node of a path names no node.
 pub(crate) fn is_one_nameless_at(paths: &BTreeMap<&[u8], NodeId>, all: &[Props], path: &str) -> bool
-    ensures { result ≡ list_any (λ (p : List ℕ × List Part). is_none (named_with (finder paths.now) p.1)) (props_found (finder paths.now) all.now path.now) }
+    ensures { result ≡ list_any
+        (λ (p : List ℕ × List Part). is_none (named_with (finder paths.now) p.1))
+        (props_found (finder paths.now) all.now path.now) }
 {
     match props_at(paths, all, path) {
         Some(props) => is_one_nameless(paths, props),
@@ -80,7 +84,8 @@ pub(crate) fn named_at(
     all: &[Props],
     path: &str,
 ) -> Result<Vec<(Text, NodeId)>, AllocError>
-    ensures { IfOk result (λ v. v.items ≡ filter_map (naming_with (finder paths.now)) (props_found (finder paths.now) all.now path.now)) }
+    ensures { IfOk result (λ v. v.items
+        ≡ filter_map (naming_with (finder paths.now)) (props_found (finder paths.now) all.now path.now)) }
 {
     match props_at(paths, all, path) {
         Some(props) => named(alloc, paths, props),
@@ -90,7 +95,9 @@ pub(crate) fn named_at(
 
 /// Whether one of these properties names no node.
 fn is_one_nameless(paths: &BTreeMap<&[u8], NodeId>, props: &Props) -> bool
-    ensures { result ≡ list_any (λ (p : List ℕ × List Part). is_none (named_with (finder paths.now) p.1)) props.now }
+    ensures { result ≡ list_any
+        (λ (p : List ℕ × List Part). is_none (named_with (finder paths.now) p.1))
+        props.now }
 {
     for (_, value) in props.map.iter() {
         if named_by(paths, value).is_none() {

@@ -20,7 +20,8 @@ pub(crate) fn names_of(alloc: Global, path: &Text) -> Result<Vec<Text>, AllocErr
 }
 
 fn pieces<'a>(alloc: Global, text: &'a str) -> Result<Vec<&'a str>, AllocError>
-    ensures { IfOk result (λ v. map (λ x. x.now) v.items ≡ slice_split (λ b. nat_eq b 47) text.now) }
+    ensures { IfOk result (λ v. map (λ x. x.now) v.items ≡ slice_split
+        (λ b. nat_eq b 47) text.now) }
 {
     text.split('/').collect(alloc)
 }
@@ -65,7 +66,8 @@ pub(crate) fn slot_text(alloc: Global, spots: &[Spot], slot: usize) -> Result<Te
 // A slot and those above it but the root.
 fn chain_of(alloc: Global, spots: &[Spot], slot: usize) -> Result<Vec<usize>, AllocError>
     requires { ParentsRise spots.now }
-    ensures { IfOk result (λ v. fold (with_slash spots.now) [] (reverse v.items) ≡ text_of spots.now slot) }
+    ensures { IfOk result (λ v. fold (with_slash spots.now) [] (reverse v.items)
+        ≡ text_of spots.now slot) }
 {
     let mut chain = Vec::new(alloc);
     let mut at = slot;

@@ -1,6 +1,7 @@
 //! The nodes of the tree.
 
-ghost use Rattle.std.specs.Prelude.{◌≡◌, ◌≤◌, ◌<◌, ◌^◌, ◌++◌, ◌∷◌, [], All, IfOk, IfSome, OnOk, is_none, length, map, replicate, unwrap_or};
+ghost use Rattle.std.specs.Prelude.{◌≡◌, ◌≤◌, ◌<◌, ◌^◌, ◌++◌, ◌∷◌, [], All, IfOk, IfSome, OnOk};
+ghost use Rattle.std.specs.Prelude.{is_none, length, map, replicate, unwrap_or};
 ghost use Rattle.std.specs.List.{range_with_len};
 ghost use Rattle.dts_tree.specs.Final.{compats_of, okay_for_ok, status_of, below_from, node_of};
 ghost use Rattle.dts_tree.specs.Rules.{is_mistyped};
@@ -46,7 +47,8 @@ impl Ids {
 /// The children of each node.
 pub(crate) fn children_of(alloc: Global, drafts: &[Draft]) -> Result<Vec<Ids>, AllocError>
     requires { length drafts.now ≤ 65535 }
-    ensures { IfOk result (λ v. v.items ≡ map (below_from 0 drafts.now) (range_with_len 0 (length drafts.now))) }
+    ensures { IfOk result
+        (λ v. v.items ≡ map (below_from 0 drafts.now) (range_with_len 0 (length drafts.now))) }
 {
     let mut lists = lists(alloc, drafts.len())?;
     for (place, draft) in drafts.iter().enumerate() {

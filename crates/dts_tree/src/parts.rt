@@ -23,7 +23,8 @@ pub(crate) fn drafts(
     kept: &[usize],
 ) -> Result<Vec<Draft>, AllocError>
     requires { ParentsRise known.now.finder.arena.spots }
-    ensures { IfOk result (λ v. v.items ≡ slot_drafts known.now.finder known.now.grown known.now.props.items kept.now) }
+    ensures { IfOk result (λ v. v.items
+        ≡ slot_drafts known.now.finder known.now.grown known.now.props.items kept.now) }
 {
     let places = places_of(alloc, known.finder.spots().len(), kept)?;
     let mut drafts = Vec::new(alloc);
@@ -69,7 +70,8 @@ fn draft(
     slot: usize,
 ) -> Result<Draft, AllocError>
     requires { ParentsRise known.now.finder.arena.spots }
-    ensures { IfOk result (λ d. d ≡ slot_draft known.now.finder known.now.grown known.now.props.items places.now slot) }
+    ensures { IfOk result (λ d. d ≡ slot_draft known.now.finder known.now.grown
+        known.now.props.items places.now slot) }
 {
     let spots = known.finder.spots();
     Ok(Draft {
@@ -137,7 +139,8 @@ fn props_of(
     places: &[Option<usize>],
     props: &[usize],
 ) -> Result<Vec<DraftProp>, AllocError>
-    ensures { IfOk result (λ v. v.items ≡ map (slot_prop known.now.finder known.now.grown places.now) props.now) }
+    ensures { IfOk result (λ v. v.items ≡ map
+        (slot_prop known.now.finder known.now.grown places.now) props.now) }
 {
     let mut drafts = Vec::new(alloc);
     for prop in props {
@@ -167,7 +170,8 @@ fn parts_of(
     places: &[Option<usize>],
     parts: &[RawPart],
 ) -> Result<Vec<DraftPart>, AllocError>
-    ensures { IfOk result (λ v. map draft_part_data v.items ≡ map (slot_part finder.now places.now) (map part_data parts.now)) }
+    ensures { IfOk result (λ v. map draft_part_data v.items ≡ map
+        (slot_part finder.now places.now) (map part_data parts.now)) }
 {
     let mut drafts = Vec::new(alloc);
     for part in parts {
@@ -182,7 +186,8 @@ fn part_draft(
     places: &[Option<usize>],
     part: &RawPart,
 ) -> Result<DraftPart, AllocError>
-    ensures { IfOk result (λ p. draft_part_data p ≡ slot_part finder.now places.now (part_data part.now)) }
+    ensures { IfOk result (λ p. draft_part_data p ≡ slot_part finder.now places.now
+        (part_data part.now)) }
 {
     match part {
         RawPart::Plain(part) => Ok(DraftPart::Ready(Part {

@@ -1,7 +1,10 @@
 //! Phandles: those that nodes were written with, and those that they get.
 
-ghost use Rattle.std.specs.Prelude.{◌≡◌, ◌≤◌, ◌<◌, [], None, IfOk, length, map, option_map, fold, slice_index_or, slice_set};
-ghost use Rattle.dts_tree.specs.Final.{draft_prop, cells_of, only_cell, cell_phandle, written_number, written, cell_ref, part_refs, node_refs, least_free, given_to, phandles};
+ghost use Rattle.std.specs.Prelude.{◌≡◌, ◌≤◌, ◌<◌, [], None, IfOk, length, map, option_map, fold};
+ghost use Rattle.std.specs.Prelude.{slice_index_or, slice_set};
+ghost use Rattle.dts_tree.specs.Final.{draft_prop, cells_of, only_cell, cell_phandle};
+ghost use Rattle.dts_tree.specs.Final.{written_number, written, cell_ref, part_refs, node_refs};
+ghost use Rattle.dts_tree.specs.Final.{least_free, given_to, phandles};
 ghost use Rattle.std.specs.List.{flat_map, filter_map};
 ghost use Rattle.dts_tree.specs.Inner.DraftForm.{draft_part_data};
 ghost use Rattle.dts_tree.specs.Rules.{first_bad_phandle};
@@ -164,7 +167,8 @@ impl Giver {
     }
 
     fn take_value(&mut self, parts: &[DraftPart])
-        ensures { self.new ≡ fold given_to self.old (flat_map part_refs (map draft_part_data parts.now)) }
+        ensures { self.new
+            ≡ fold given_to self.old (flat_map part_refs (map draft_part_data parts.now)) }
     {
         for part in parts {
             self.take_part(part);

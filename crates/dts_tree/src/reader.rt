@@ -171,7 +171,8 @@ impl<'a> Reader<'a> {
     }
 
     fn assign(&mut self, alloc: Global, act: &'a Act, name: &Text) -> Result<(), AllocError>
-        ensures { OnOk result (self.new ≡ entering self.old (step.Prop name.now) (act_data act.now)) }
+        ensures { OnOk result (self.new ≡ entering self.old (step.Prop name.now)
+            (act_data act.now)) }
     {
         let here = self.here();
         let slot = self.arena.enter_prop(alloc, here, name)?;
@@ -179,7 +180,8 @@ impl<'a> Reader<'a> {
     }
 
     fn delete_prop(&mut self, alloc: Global, name: &Text) -> Result<(), AllocError>
-        ensures { OnOk result (self.new ≡ without_child self.old (child_of self.old.arena (here_slot self.old) (step.Prop name.now))) }
+        ensures { OnOk result (self.new ≡ without_child self.old
+            (child_of self.old.arena (here_slot self.old) (step.Prop name.now))) }
     {
         match self.arena.prop(self.here(), name) {
             Some(slot) => self.arena.remove(alloc, slot),
@@ -188,7 +190,8 @@ impl<'a> Reader<'a> {
     }
 
     fn delete_child(&mut self, alloc: Global, name: &Text) -> Result<(), AllocError>
-        ensures { OnOk result (self.new ≡ without_child self.old (child_of self.old.arena (here_slot self.old) (step.Child name.now))) }
+        ensures { OnOk result (self.new ≡ without_child self.old
+            (child_of self.old.arena (here_slot self.old) (step.Child name.now))) }
     {
         match self.arena.child(self.here(), name) {
             Some(slot) => self.arena.remove(alloc, slot),
@@ -224,7 +227,9 @@ impl<'a> Reader<'a> {
     }
 
     fn mark_child(&mut self, act: &'a Act, name: &Text) -> Result<(), AllocError>
-        ensures { OnOk result (self.new ≡ noted_child self.old (child_of self.old.arena (here_slot self.old) (step.Child name.now)) (act_data act.now)) }
+        ensures { OnOk result (self.new ≡ noted_child self.old
+            (child_of self.old.arena (here_slot self.old) (step.Child name.now))
+            (act_data act.now)) }
     {
         match self.arena.child(self.here(), name) {
             Some(slot) => self.note(slot, act),

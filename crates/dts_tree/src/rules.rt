@@ -50,7 +50,8 @@ pub(crate) fn first_large(
     slots: &[usize],
     lens: &[u64],
 ) -> Result<Option<usize>, AllocError>
-    ensures { IfOk result (λ o. o ≡ first_large_slot known.now.finder known.now.grown lens.now known.now.props.items slots.now) }
+    ensures { IfOk result (λ o. o ≡ first_large_slot known.now.finder known.now.grown lens.now
+        known.now.props.items slots.now) }
 {
     for slot in slots {
         if has_large(
@@ -187,7 +188,9 @@ pub(crate) fn want_nodes(
     marks: &mut Vec<bool>,
     slots: &[usize],
 ) -> Result<(), AllocError>
-    ensures { OnOk result (marks.new.items ≡ wanted_from known.now.finder known.now.grown known.now.props.items marks.old.items slots.now) }
+    ensures { OnOk result (marks.new.items
+        ≡ wanted_from known.now.finder known.now.grown known.now.props.items marks.old.items
+        slots.now) }
 {
     for slot in slots {
         want_props(
@@ -208,7 +211,8 @@ fn want_props(
     marks: &mut Vec<bool>,
     props: &[usize],
 ) -> Result<(), AllocError>
-    ensures { OnOk result (marks.new.items ≡ fold (wanted_by finder.now grown.now) marks.old.items props.now) }
+    ensures { OnOk result (marks.new.items ≡ fold
+        (wanted_by finder.now grown.now) marks.old.items props.now) }
 {
     for prop in props {
         want_parts(alloc, finder, marks, grown.value(*prop))?;
@@ -222,7 +226,8 @@ fn want_parts(
     marks: &mut Vec<bool>,
     parts: &[RawPart],
 ) -> Result<(), AllocError>
-    ensures { OnOk result (marks.new.items ≡ wanted_parts finder.now marks.old.items (map part_data parts.now)) }
+    ensures { OnOk result (marks.new.items ≡ wanted_parts finder.now marks.old.items
+        (map part_data parts.now)) }
 {
     for part in parts {
         want_part(alloc, finder, marks, part)?;
@@ -236,7 +241,8 @@ fn want_part(
     marks: &mut Vec<bool>,
     part: &RawPart,
 ) -> Result<(), AllocError>
-    ensures { OnOk result (marks.new.items ≡ fold (wants finder.now) marks.old.items (part_targets (part_data part.now))) }
+    ensures { OnOk result (marks.new.items ≡ fold (wants finder.now) marks.old.items
+        (part_targets (part_data part.now))) }
 {
     match part {
         RawPart::Plain(_) => Ok(()),
@@ -251,7 +257,8 @@ fn want_cells(
     marks: &mut Vec<bool>,
     cells: &[RawCell],
 ) -> Result<(), AllocError>
-    ensures { OnOk result (marks.new.items ≡ fold (wants finder.now) marks.old.items (cell_targets cells.now)) }
+    ensures { OnOk result (marks.new.items ≡ fold (wants finder.now) marks.old.items
+        (cell_targets cells.now)) }
 {
     for cell in cells {
         match cell {

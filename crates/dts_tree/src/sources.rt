@@ -39,7 +39,8 @@ pub(crate) fn read<'a>(
     scripts: &'a Vec<Script>,
 ) -> Result<Reader<'a>, End>
     requires { length files.now.items ≡ length scripts.now.items }
-    ensures { Answers (or_fault files.now.items (carried_all 0 reader_start scripts.now.items)) result }
+    ensures { Answers (or_fault files.now.items
+        (carried_all 0 reader_start scripts.now.items)) result }
 {
     let mut reader = Reader::new(alloc)?;
     for (source, script) in scripts.as_slice().iter().enumerate() {

@@ -1,12 +1,14 @@
 //! Properties with their values in bytes.
 
-ghost use Rattle.std.specs.Prelude.{◌≡◌, ◌++◌, ◌∷◌, [], None, IfOk, OnOk, ℕ, List, map, option_map, slice_index_or};
+ghost use Rattle.std.specs.Prelude.{◌≡◌, ◌++◌, ◌∷◌, [], None, IfOk, OnOk, ℕ, List, map, option_map};
+ghost use Rattle.std.specs.Prelude.{slice_index_or};
 ghost use Rattle.std.specs.List.{flat_map, IsDistinct};
 ghost use Rattle.std.specs.Str.{bytes_eq};
 ghost use Rattle.edt_base.specs.Cells.{cell_bytes};
 ghost use Rattle.edt_base.specs.NodeData.{prop_of};
 ghost use Rattle.dts_tree.specs.Drafts.{DraftPartData};
-ghost use Rattle.dts_tree.specs.Final.{cell_value, path_at, part_of, prop_value, given_prop, props_of, props_with};
+ghost use Rattle.dts_tree.specs.Final.{cell_value, path_at, part_of, prop_value, given_prop};
+ghost use Rattle.dts_tree.specs.Final.{props_of, props_with};
 ghost use Rattle.dts_tree.specs.Inner.DraftForm.{draft_part_data};
 ghost use Rattle.dts_tree.specs.Inner.DraftRules.{AreDrafts};
 
@@ -96,7 +98,8 @@ fn props_of(
     draft: &Draft,
     number: Option<u32>,
 ) -> Result<Props, AllocError>
-    requires { IsDistinct bytes_eq (map (λ (p : List ℕ × List DraftPartData). p.0) draft.now.props) }
+    requires { IsDistinct bytes_eq
+        (map (λ (p : List ℕ × List DraftPartData). p.0) draft.now.props) }
     ensures { IfOk result (λ p. p ≡ props_of drafts.now numbers.now draft.now number) }
 {
     let mut props = written_props(alloc, drafts, numbers, draft.props.as_slice())?;
@@ -133,7 +136,8 @@ fn value_of(
     numbers: &[Option<u32>],
     parts: &[DraftPart],
 ) -> Result<PropVal, AllocError>
-    ensures { IfOk result (λ v. v ≡ map (part_of drafts.now numbers.now) (map draft_part_data parts.now)) }
+    ensures { IfOk result
+        (λ v. v ≡ map (part_of drafts.now numbers.now) (map draft_part_data parts.now)) }
 {
     let mut made = Vec::new(alloc);
     for part in parts {
@@ -171,7 +175,8 @@ fn bytes_of(
     numbers: &[Option<u32>],
     cells: &[DraftCell],
 ) -> Result<Bytes, AllocError>
-    ensures { IfOk result (λ b. b ≡ flat_map (λ c. cell_bytes (cell_value numbers.now c)) cells.now) }
+    ensures { IfOk result
+        (λ b. b ≡ flat_map (λ c. cell_bytes (cell_value numbers.now c)) cells.now) }
 {
     let mut bytes = Vec::new(alloc);
     for cell in cells {

@@ -121,7 +121,12 @@ but_last xs = take (length xs - 1) xs
 
 abbrev pub sweep : ℕ → ArenaData → List ℕ → ArenaData
 sweep zero a waiting = a
-sweep (suc n) a waiting = elim (last_slot waiting) [ None ↦ a | Some id ↦ sweep n (left_at a id) (but_last waiting ++ slice_index_or a.below id []) ]
+sweep (suc n) a waiting =
+    elim (last_slot waiting) [
+      | None ↦ a
+      | Some id ↦ sweep n (left_at a id) (but_last waiting
+          ++ slice_index_or a.below id [])
+    ]
 
 -- how many turns it takes
 abbrev pub work : ArenaData → List ℕ → ℕ

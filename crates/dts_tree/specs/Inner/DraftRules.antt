@@ -48,10 +48,12 @@ pub record AreDrafts (ds : List DraftData) : Type 0 where
   pub paths : (i p : ℕ) (d up : DraftData) → slice_get ds i ≡ Some d → d.parent ≡ Some p → slice_get ds p ≡ Some up
       → d.path ≡ path_below up.parent up.path d.name
   -- no two share a path or a label
-  pub paths_apart : (i j : ℕ) (d e : DraftData) → slice_get ds i ≡ Some d → slice_get ds j ≡ Some e → d.path ≡ e.path → i ≡ j
+  pub paths_apart : (i j : ℕ) (d e : DraftData) → slice_get ds i ≡ Some d → slice_get ds j ≡ Some e
+      → d.path ≡ e.path → i ≡ j
   pub labels_apart : (i j : ℕ) (d e : DraftData) (label : List ℕ) → slice_get ds i ≡ Some d → slice_get ds j ≡ Some e
       → has_draft_label label d → has_draft_label label e → i ≡ j
   -- no two properties of one share a name
-  pub props_apart : (i : ℕ) (d : DraftData) → slice_get ds i ≡ Some d → IsDistinct bytes_eq (map (λ (p : List ℕ × List DraftPartData). p.0) d.props)
+  pub props_apart : (i : ℕ) (d : DraftData) → slice_get ds i ≡ Some d
+      → IsDistinct bytes_eq (map (λ (p : List ℕ × List DraftPartData). p.0) d.props)
   pub parts : (i : ℕ) (d : DraftData) → slice_get ds i ≡ Some d
       → All (λ (p : List ℕ × List DraftPartData). All (IsPartOf (length ds)) p.1) d.props

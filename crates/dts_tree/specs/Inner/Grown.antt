@@ -97,7 +97,8 @@ abbrev pub most : ℕ
 most = 2 ^ 64 - 1
 
 abbrev pub next_len : List ℕ → Spot → ℕ
-next_len lens s = option_map_or (λ len. min (min (len + length (step_name s.step)) most + 1) most) (slice_get lens s.parent) 0
+next_len lens s =
+    option_map_or (λ len. min (min (len + length (step_name s.step)) most + 1) most) (slice_get lens s.parent) 0
 
 abbrev pub lens_from : List ℕ → List Spot → List ℕ
 lens_from lens [] = lens
@@ -166,7 +167,8 @@ any_seen seen ls = list_any (λ l. list_any (bytes_eq l) seen) ls
 
 abbrev pub shared_from : GrownData → List (List ℕ) → List ℕ → Option ℕ
 shared_from g seen [] = None
-shared_from g seen (i ∷ is) = if any_seen seen (labels_at g i) then Some i else shared_from g (fold (with_new bytes_eq) seen (labels_at g i)) is
+shared_from g seen (i ∷ is) =
+    if any_seen seen (labels_at g i) then Some i else shared_from g (fold (with_new bytes_eq) seen (labels_at g i)) is
 
 -- ---- dropping
 
@@ -186,7 +188,8 @@ wanted_from r g props marks (i ∷ is) = wanted_from r g props (fold (wanted_by 
 
 -- whether a slot stays: it was kept, and isn't marked or is wanted
 abbrev pub stays_at : List Bool → List Bool → List Bool → ℕ → Bool
-stays_at keep marks wanted i = slice_index_or keep i false && not (slice_index_or marks i false && not (slice_index_or wanted i false))
+stays_at keep marks wanted i =
+    slice_index_or keep i false && not (slice_index_or marks i false && not (slice_index_or wanted i false))
 
 abbrev pub stays_list : List Bool → List Bool → List Bool → List Bool
 stays_list keep marks wanted = map (stays_at keep marks wanted) (range_with_len 0 (length keep))

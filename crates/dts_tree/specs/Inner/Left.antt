@@ -1,4 +1,5 @@
--- The nodes that are left as drafts, or the first rule that all nodes break, from what the code gathered. No part of what is promised.
+-- The nodes that are left as drafts, or the first rule that all nodes break, from what the code gathered. No part of
+-- what is promised.
 use Rattle.std.specs.Prelude.{ℕ, ◌+◌, Bool, true, false, List, [], ◌∷◌, Option, Some, None, Result, Ok, Err, length, map, replicate, codes, nat_eq, slice_index_or, slice_set, if◌then◌else◌}
 use Rattle.std.specs.Option.{option_and_then}
 use Rattle.edt_base.specs.declared.fault.Fault.{Fault}

@@ -40,7 +40,8 @@ reader_start = record { arena = root_arena; events = []; labels = no_labels; wit
 -- ---- labels
 
 abbrev pub put_at : LabelsData → List ℕ → ℕ → Option ℕ → LabelsData
-put_at l label slot None = record { numbers = with_name l.numbers label (length l.stacks); stacks = l.stacks ++ (slot ∷ []) ∷ [] }
+put_at l label slot None =
+    record { numbers = with_name l.numbers label (length l.stacks); stacks = l.stacks ++ (slot ∷ []) ∷ [] }
 put_at l label slot (Some n) = record l { stacks = pushed l.stacks n slot }
 
 abbrev pub with_label : LabelsData → List ℕ → ℕ → LabelsData
@@ -99,7 +100,8 @@ entering r step act = record r {
 }
 
 abbrev pub opened : ReaderData → List ℕ → ActData → ReaderData
-opened r n act = record (entering r (Child n) act) { within = r.within ++ entered_slot r.arena (here_slot r) (Child n) ∷ [] }
+opened r n act =
+    record (entering r (Child n) act) { within = r.within ++ entered_slot r.arena (here_slot r) (Child n) ∷ [] }
 
 abbrev pub opened_at : ReaderData → ℕ → ReaderData → Option ℕ → ActData → Result ReaderData ℕ
 opened_at r at left None act = Err at
@@ -108,12 +110,16 @@ opened_at r at left (Some slot) act = Ok (record (noted left slot act) { within 
 abbrev pub opening_slot : ReaderData → ℕ → ActData → Target → Result ReaderData ℕ
 opening_slot r at act (target.Child n) = Ok (opened r n act)
 opening_slot r at act target.Root = opened_at r at (looked_up r target.Root) (named_slot r target.Root) act
-opening_slot r at act (target.ByLabel l) = opened_at r at (looked_up r (target.ByLabel l)) (named_slot r (target.ByLabel l)) act
-opening_slot r at act (target.ByPath t) = opened_at r at (looked_up r (target.ByPath t)) (named_slot r (target.ByPath t)) act
+opening_slot r at act (target.ByLabel l) =
+    opened_at r at (looked_up r (target.ByLabel l)) (named_slot r (target.ByLabel l)) act
+opening_slot r at act (target.ByPath t) =
+    opened_at r at (looked_up r (target.ByPath t)) (named_slot r (target.ByPath t)) act
 
 -- without a slot and all below it; without anything where it is the root
 abbrev pub without : ReaderData → ℕ → ReaderData
-without r slot = if nat_eq slot 0 then record r { arena = root_arena; events = []; labels = no_labels } else record r { arena = removed r.arena slot }
+without r slot =
+    if nat_eq slot 0 then record r { arena = root_arena; events = []; labels = no_labels }
+    else record r { arena = removed r.arena slot }
 
 abbrev pub without_child : ReaderData → Option ℕ → ReaderData
 without_child r None = r
@@ -140,8 +146,10 @@ noted_at at left (Some slot) act = Ok (noted (record left { within = [] }) slot 
 abbrev pub marking_slot : ReaderData → ℕ → ActData → Target → Result ReaderData ℕ
 marking_slot r at act (target.Child n) = Ok (noted_child r (child_of r.arena (here_slot r) (Child n)) act)
 marking_slot r at act target.Root = noted_at at (looked_up r target.Root) (named_slot r target.Root) act
-marking_slot r at act (target.ByLabel l) = noted_at at (looked_up r (target.ByLabel l)) (named_slot r (target.ByLabel l)) act
-marking_slot r at act (target.ByPath t) = noted_at at (looked_up r (target.ByPath t)) (named_slot r (target.ByPath t)) act
+marking_slot r at act (target.ByLabel l) =
+    noted_at at (looked_up r (target.ByLabel l)) (named_slot r (target.ByLabel l)) act
+marking_slot r at act (target.ByPath t) =
+    noted_at at (looked_up r (target.ByPath t)) (named_slot r (target.ByPath t)) act
 
 abbrev pub labelling : ReaderData → List ℕ → ActData → ReaderData
 labelling r l act = record (noted r (here_slot r) act) { labels = with_label r.labels l (here_slot r) }
@@ -175,4 +183,6 @@ Finds wanted at (Err (stop.Memory e)) = ⊤
 -- the statements of all sources, the first of which has this place among them
 abbrev pub carried_all : ℕ → ReaderData → List (List StmtData) → Result ReaderData Unnamed
 carried_all first r [] = Ok r
-carried_all first r (s ∷ rest) = elim (carried_on (record r { within = [] }) s) [ Ok next ↦ carried_all (first + 1) next rest | Err at ↦ Err (record { source = first; at = at }) ]
+carried_all first r (s ∷ rest) =
+    elim (carried_on (record r { within = [] }) s)
+    [ Ok next ↦ carried_all (first + 1) next rest | Err at ↦ Err (record { source = first; at = at }) ]

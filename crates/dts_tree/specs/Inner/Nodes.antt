@@ -1,5 +1,6 @@
 -- The nodes as the code makes them. No part of what is promised.
-use Rattle.std.specs.Prelude.{◌≡◌, ◌<◌, ◌++◌, ◌^◌, ℕ, List, [], ◌∷◌, Option, Some, None, IfSome, find, slice_set, slice_index_or}
+use Rattle.std.specs.Prelude.{◌≡◌, ◌<◌, ◌++◌, ◌^◌, ℕ, List, [], ◌∷◌, Option, Some, None, IfSome, find, slice_set}
+use Rattle.std.specs.Prelude.{slice_index_or}
 use Rattle.edt_base.specs.NodeData.{NodeData}
 use Rattle.edt_base.specs.declared.node.Part.{Part}
 use Rattle.dts_tree.specs.Drafts.{DraftData}
