@@ -2,6 +2,7 @@ pub mod IndexLemmas
 pub mod ListLaws
 pub mod OrderLaws
 pub mod PropOrderLemmas
+pub mod Puts
 pub mod RisingLaws
 pub mod RootAlone
 pub mod TreeLaws

@@ -15,6 +15,7 @@ pub mod Nodes
 pub mod Ords
 pub mod Outside
 pub mod PropData
+pub mod Put
 pub mod Refusals
 pub mod SourceBytes
 pub mod SourceNames

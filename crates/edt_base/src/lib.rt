@@ -2,6 +2,7 @@
 //! outside with the objects in memory that have them.
 #![tactic(auto)]
 
+mod block;
 mod bound;
 mod bytes;
 mod cells;
@@ -22,6 +23,7 @@ mod value;
 mod words;
 mod yaml;
 
+pub use block::{Block, flush, put, put_byte};
 pub use bound::{Bound, BoundNode, Entry, Inst, Irq, Prop, PropType, Range, Reg, Val};
 pub use bytes::Bytes;
 pub use cells::Cells;

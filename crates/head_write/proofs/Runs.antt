@@ -4,8 +4,8 @@ use Rattle.std.proofs.lemmas.List.{append-nil, take-append-drop, take_more, drop
 use Rattle.std.proofs.lemmas.List.Concat.{flat_map-append}
 use Rattle.std.specs.List.{flat_map}
 use Rattle.edt_base.specs.Outside.{SinkSeen}
-use Rattle.head_write.specs.Inner.Put.{Put}
-use Rattle.head_write.proofs.Puts.{put_then, put_stops}
+use Rattle.edt_base.specs.Put.{Put}
+use Rattle.edt_base.proofs.Puts.{put_then, put_stops}
 
 -- one thing more was put
 pub one_more : {X : Type 0} (f : X → List ℕ) (xs : List X) (i : ℕ) (d x : X) (a b c : SinkSeen) (first second third : List ℕ)

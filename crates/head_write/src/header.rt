@@ -4,11 +4,10 @@ ghost use Rattle.std.specs.Prelude.{is_ok};
 ghost use Rattle.edt_base.specs.Outside.{Wrote};
 ghost use Rattle.head_write.specs.Header.{header_text, line};
 
-use crate::block::{Block, flush};
 use crate::entry::Entries;
 use crate::line::{put_entry, put_line};
 use dt_names::Fact;
-use edt_base::{Bound, Sink, WriteFailed};
+use edt_base::{Block, Bound, Sink, WriteFailed, flush};
 
 #[tactic(auto, unfolding(crate::specs::Header::header_text))]
 /// Writes the header of a bound tree, as `header_text` in `specs/Header.antt` has it: a line for

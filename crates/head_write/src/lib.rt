@@ -1,7 +1,6 @@
 //! The header's text: one line a definition (Zephyr 3.7, "Devicetree API"), written without memory.
 #![tactic(auto)]
 
-mod block;
 mod entry;
 mod header;
 mod length;

@@ -3,13 +3,12 @@
 ghost use Rattle.std.specs.Prelude.{◌≡◌, is_ok, option_map};
 ghost use Rattle.dt_names.specs.Pieces.{spells};
 ghost use Rattle.head_write.specs.Header.{body_text, entry_text, heading_text, line, params_text};
-ghost use Rattle.head_write.specs.Inner.Put.{Put};
+ghost use Rattle.edt_base.specs.Put.{Put};
 
-use crate::block::{Block, put};
 use crate::entry::Entry;
 use crate::text::{put_piece, put_pieces};
 use dt_names::{Fact, Params, Pieces};
-use edt_base::{Sink, WriteFailed};
+use edt_base::{Block, Sink, WriteFailed, put};
 
 /// Puts the comment before a definition, and its line where it is no double.
 pub(crate) fn put_entry<S: Sink>(

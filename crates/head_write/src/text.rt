@@ -5,12 +5,11 @@ ghost use Rattle.std.specs.List.{flat_map};
 ghost use Rattle.edt_base.specs.Forms.{form_byte, form_char, form_of};
 ghost use Rattle.dt_names.specs.Pieces.{escaped, quoted, spell, spells};
 ghost use Rattle.dt_names.specs.Inner.Words.{piece_of};
-ghost use Rattle.head_write.specs.Inner.Put.{Put};
+ghost use Rattle.edt_base.specs.Put.{Put};
 
-use crate::block::{Block, put, put_byte};
 use arrayvec::ArrayVec;
 use dt_names::{Piece, Pieces};
-use edt_base::{Sink, WriteFailed};
+use edt_base::{Block, Sink, WriteFailed, put, put_byte};
 use itoa::Buffer;
 
 /// How many bytes of a name are turned into its form at once.

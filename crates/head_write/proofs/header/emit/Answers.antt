@@ -1,7 +1,7 @@
 use Rattle.std.proofs.Common.{ap}
 use Rattle.std.specs.List.{flat_map}
 use Rattle.head_write.specs.Header.{entry_text}
-use Rattle.head_write.proofs.Puts.{last_flush, if_ok, write_fails, failed}
+use Rattle.edt_base.proofs.Puts.{last_flush, if_ok, write_fails, failed}
 use Rattle.head_write.proofs.Runs.{part_more, part_fails, all_put}
 use Rattle.head_write.proofs.header.emit.Goals as goal
 

@@ -1,7 +1,7 @@
 use Rattle.std.proofs.Common.{◌≡◌, ◌++◌, List, ℕ, length, true}
 use Rattle.std.specs.List.{flat_map}
 use Rattle.head_write.specs.Header.{entry_text, header_text}
-use Rattle.head_write.specs.Inner.Put.{Put}
+use Rattle.edt_base.specs.Put.{Put}
 use Rattle.head_write.proofs.header.emit.Given as goal
 
 -- the definitions so far were put, and those that are left are the rest

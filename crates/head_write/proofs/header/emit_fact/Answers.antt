@@ -1,4 +1,4 @@
-use Rattle.head_write.proofs.Puts.{last_flush, if_ok}
+use Rattle.edt_base.proofs.Puts.{last_flush, if_ok}
 use Rattle.head_write.proofs.header.emit_fact.Goals as goal
 
 pub returns : goal.returns

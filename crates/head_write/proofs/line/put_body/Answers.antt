@@ -1,7 +1,7 @@
 use Rattle.std.proofs.Common.{codes, ◌++◌}
 use Rattle.dt_names.specs.Pieces.{spell, spells}
 use Rattle.dt_names.specs.Inner.Words.{piece_of}
-use Rattle.head_write.proofs.Puts.{put_then, put_stops, not_done, failed}
+use Rattle.edt_base.proofs.Puts.{put_then, put_stops, not_done, failed}
 use Rattle.head_write.proofs.line.put_body.Goals as goal
 
 pub returns-in_err-put-in-Some : goal.returns-in_err-put-in-Some

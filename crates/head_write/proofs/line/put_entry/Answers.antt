@@ -1,7 +1,7 @@
 use Rattle.std.proofs.Common.{ap, ◌≡◌, false, refl}
 use Rattle.head_write.specs.Header.{heading_text, line, line_of}
 use Rattle.head_write.specs.declared.entry.Entry.{Entry}
-use Rattle.head_write.proofs.Puts.{put_as, put_then, put_stops, not_done, failed}
+use Rattle.edt_base.proofs.Puts.{put_as, put_then, put_stops, not_done, failed}
 use Rattle.head_write.proofs.line.put_entry.Goals as goal
 
 kept_line : (e : Entry) → e.is_double ≡ false → line e.fact ≡ line_of e

@@ -1,6 +1,6 @@
 use Rattle.std.proofs.Common.{codes, ◌++◌}
 use Rattle.head_write.specs.Header.{heading_text}
-use Rattle.head_write.proofs.Puts.{put_then, put_stops, not_done, failed}
+use Rattle.edt_base.proofs.Puts.{put_then, put_stops, not_done, failed}
 use Rattle.head_write.proofs.line.put_heading.Goals as goal
 
 pub returns-in_err-put : goal.returns-in_err-put

@@ -2,7 +2,7 @@ use Rattle.std.proofs.Common.{◌≡◌, ◌∙◌, ◌++◌, ℕ, List, codes, 
 use Rattle.dt_names.specs.Facts.{FactData, full_name}
 use Rattle.dt_names.specs.Pieces.{spells}
 use Rattle.head_write.specs.Header.{body_text, line, params_text}
-use Rattle.head_write.proofs.Puts.{put_as, put_then, put_stops, not_done, failed}
+use Rattle.edt_base.proofs.Puts.{put_as, put_then, put_stops, not_done, failed}
 use Rattle.head_write.proofs.line.put_line.Goals as goal
 
 -- what stands behind a name, and behind parameters

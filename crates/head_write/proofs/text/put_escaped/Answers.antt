@@ -1,7 +1,7 @@
 use Rattle.std.proofs.Common.{refl}
 use Rattle.dt_names.specs.Pieces.{escaped}
 use Rattle.head_write.proofs.Runs.{one_more, one_fails}
-use Rattle.head_write.proofs.Puts.{not_done, failed}
+use Rattle.edt_base.proofs.Puts.{not_done, failed}
 use Rattle.head_write.proofs.text.put_escaped.Goals as goal
 
 pub returns-in_err-put_escaped_byte : goal.returns-in_err-put_escaped_byte

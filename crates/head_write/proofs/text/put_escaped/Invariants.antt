@@ -1,7 +1,7 @@
 use Rattle.std.proofs.Common.{take, true}
 use Rattle.std.specs.List.{flat_map}
 use Rattle.dt_names.specs.Pieces.{escaped}
-use Rattle.head_write.specs.Inner.Put.{Put}
+use Rattle.edt_base.specs.Put.{Put}
 use Rattle.head_write.proofs.text.put_escaped.Given as goal
 
 abbrev pub invariant-loop-byte : goal.invariant-loop-byte

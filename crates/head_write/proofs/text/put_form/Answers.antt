@@ -3,7 +3,7 @@ use Rattle.std.proofs.lemmas.List.{take-append-drop}
 use Rattle.std.proofs.lemmas.List.Concat.{flat_map-append}
 use Rattle.edt_base.specs.Forms.{form_char, form_of}
 use Rattle.head_write.proofs.Runs.{part_more, part_fails}
-use Rattle.head_write.proofs.Puts.{not_done, failed}
+use Rattle.edt_base.proofs.Puts.{not_done, failed}
 use Rattle.head_write.proofs.text.put_form.Goals as goal
 
 -- a text's form is that of its front and that of the rest

@@ -1,6 +1,6 @@
 use Rattle.std.proofs.Common.{◌≡◌, ◌++◌, List, ℕ, length, true}
 use Rattle.edt_base.specs.Forms.{form_of}
-use Rattle.head_write.specs.Inner.Put.{Put}
+use Rattle.edt_base.specs.Put.{Put}
 use Rattle.head_write.proofs.text.put_form.Given as goal
 
 -- the form so far was put, and that of what is left is the rest

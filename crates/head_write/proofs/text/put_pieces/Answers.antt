@@ -1,7 +1,7 @@
 use Rattle.std.proofs.Common.{ap}
 use Rattle.dt_names.specs.Pieces.{spells}
 use Rattle.head_write.proofs.Runs.{part_more, part_fails, all_put}
-use Rattle.head_write.proofs.Puts.{not_done, failed}
+use Rattle.edt_base.proofs.Puts.{not_done, failed}
 use Rattle.head_write.proofs.text.put_pieces.Goals as goal
 
 pub loop-piece-preserved : goal.loop-piece-preserved

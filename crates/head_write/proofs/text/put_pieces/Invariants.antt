@@ -1,6 +1,6 @@
 use Rattle.std.proofs.Common.{◌≡◌, ◌++◌, List, ℕ, length, true}
 use Rattle.dt_names.specs.Pieces.{spells}
-use Rattle.head_write.specs.Inner.Put.{Put}
+use Rattle.edt_base.specs.Put.{Put}
 use Rattle.head_write.proofs.text.put_pieces.Given as goal
 
 -- the pieces so far were put, and those that are left are the rest

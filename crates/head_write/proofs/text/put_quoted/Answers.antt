@@ -1,7 +1,7 @@
 use Rattle.std.proofs.Common.{◌∷◌, [], ◌++◌}
 use Rattle.std.specs.List.{flat_map}
 use Rattle.dt_names.specs.Pieces.{escaped}
-use Rattle.head_write.proofs.Puts.{put_then, put_stops, not_done, failed}
+use Rattle.edt_base.proofs.Puts.{put_then, put_stops, not_done, failed}
 use Rattle.head_write.proofs.text.put_quoted.Goals as goal
 
 pub returns-in_err-put_byte : goal.returns-in_err-put_byte

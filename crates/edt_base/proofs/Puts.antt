@@ -5,7 +5,7 @@ use Rattle.std.specs.Result.{IsErr, is_ok, OnOk}
 use Rattle.std.proofs.lemmas.Bool.{false≢true}
 use Rattle.edt_base.specs.Outside.{SinkSeen, Gains, Wrote}
 use Rattle.edt_base.proofs.WriteLaws.{gains_nothing, gains_then, rose_then}
-use Rattle.head_write.specs.Inner.Put.{Put}
+use Rattle.edt_base.specs.Put.{Put}
 
 -- a text that is held and no more
 pub held_whole : (s : SinkSeen) (held text : List ℕ) → Put s s held (held ++ text) text true

@@ -1,9 +1,9 @@
 use Rattle.std.proofs.Common.{◌≡◌, [], List, ℕ, Bool, ◌∙◌, rules, refl, subst, sym, true, false}
 use Rattle.std.proofs.lemmas.Bool.{false≢true}
 use Rattle.edt_base.specs.Outside.{SinkSeen, Wrote}
-use Rattle.head_write.specs.Inner.Put.{Put}
-use Rattle.head_write.proofs.Puts.{put_then, not_done, put_stops, flush_puts, write_puts, failed}
-use Rattle.head_write.proofs.block.put_behind_all.Goals as goal
+use Rattle.edt_base.specs.Put.{Put}
+use Rattle.edt_base.proofs.Puts.{put_then, not_done, put_stops, flush_puts, write_puts, failed}
+use Rattle.edt_base.proofs.block.put_after_all.Goals as goal
 
 -- what was held didn't go out
 flush_fails : (a b : SinkSeen) (held kept left text : List ℕ) (done : Bool) → done ≡ false → kept ≡ held → Wrote a b kept false → Put a b held left text done

@@ -6,7 +6,7 @@ use Rattle.edt_base.specs.Outside.{SinkSeen, Rose, Gains, GainsPrefix}
 abbrev pub Passes : SinkSeen → SinkSeen → List ℕ → List ℕ → List ℕ → Type 0
 Passes old new held left text = (gone : List ℕ) × (held ++ text ≡ gone ++ left) × Gains old new gone
 
--- all of the text was put, or the count rose and a front of what was held and the text was taken
+-- all of the text was put, or the count rose and a prefix of what was held and the text was taken
 pub record Put (old new : SinkSeen) (held left text : List ℕ) (done : Bool) : Type 0 where
   pub taken : MatchBool done (Passes old new held left text) (Rose old.faults new.faults
       × GainsPrefix old new (held ++ text))

@@ -2,18 +2,19 @@
 
 ghost use Rattle.std.specs.Prelude.{◌≡◌, ◌++◌, ◌∷◌, [], OnOk, is_ok, if◌then◌else◌};
 ghost use Rattle.edt_base.specs.Outside.{Wrote};
-ghost use Rattle.head_write.specs.Inner.Put.{Put};
+ghost use Rattle.edt_base.specs.Put.{Put};
 
+use crate::{Sink, WriteFailed, write_text};
 use arrayvec::ArrayVec;
-use edt_base::{Sink, WriteFailed, write_text};
 use std::marker::Model;
 
 /// How many bytes are held before they go to the sink.
 const BLOCK: usize = 16_384;
 
-/// The bytes that are held for a sink. Contracts see the list of them.
+/// At most 16,384 bytes that are held for a sink, so that it is called for whole blocks.
+/// Contracts see the list of them.
 #[derive(Drop)]
-pub(crate) struct Block {
+pub struct Block {
     held: ArrayVec<u8, 16_384>,
 }
 
@@ -27,7 +28,7 @@ impl Model for Block {
 
 impl Block {
     /// A block that holds nothing.
-    pub(crate) fn new() -> Block
+    pub fn new() -> Block
         ensures { result ≡ [] }
     {
         Block {
@@ -57,8 +58,9 @@ impl Block {
     }
 }
 
-/// Writes what is held.
-pub(crate) fn flush<S: Sink>(out: &mut S, block: &mut Block) -> Result<(), WriteFailed>
+/// Writes what is held, and holds nothing then. With `WriteFailed` a prefix of it was written.
+/// Takes no memory.
+pub fn flush<S: Sink>(out: &mut S, block: &mut Block) -> Result<(), WriteFailed>
     ensures wrote { Wrote (S.seen out.old) (S.seen out.new) block.old (is_ok result) }
     ensures emptied { OnOk result (block.new ≡ []) }
 {
@@ -68,20 +70,21 @@ pub(crate) fn flush<S: Sink>(out: &mut S, block: &mut Block) -> Result<(), Write
 }
 
 #[inline(always)]
-/// Puts a piece behind what is held, which goes to the sink first where there is no room for both;
-/// a piece longer than a block goes out by itself.
-pub(crate) fn put<S: Sink>(out: &mut S, block: &mut Block, piece: &[u8]) -> Result<(), WriteFailed>
+/// Puts a piece after what is held, which goes to the sink first where there is no room for both; a
+/// piece longer than a block goes out by itself. With `WriteFailed` a prefix of what was held and the
+/// piece was written. Takes no memory.
+pub fn put<S: Sink>(out: &mut S, block: &mut Block, piece: &[u8]) -> Result<(), WriteFailed>
     ensures { Put (S.seen out.old) (S.seen out.new) block.old block.new piece.now (is_ok result) }
 {
     if block.hold(piece) {
         return Ok(());
     }
-    put_behind_all(out, block, piece)
+    put_after_all(out, block, piece)
 }
 
 #[inline(never)]
 // The same, once what is held went to the sink.
-fn put_behind_all<S: Sink>(out: &mut S, block: &mut Block, piece: &[u8]) -> Result<(), WriteFailed>
+fn put_after_all<S: Sink>(out: &mut S, block: &mut Block, piece: &[u8]) -> Result<(), WriteFailed>
     ensures { Put (S.seen out.old) (S.seen out.new) block.old block.new piece.now (is_ok result) }
 {
     flush(out, block)?;
@@ -93,8 +96,8 @@ fn put_behind_all<S: Sink>(out: &mut S, block: &mut Block, piece: &[u8]) -> Resu
 }
 
 #[inline(always)]
-/// Puts a byte behind what is held.
-pub(crate) fn put_byte<S: Sink>(out: &mut S, block: &mut Block, byte: u8) -> Result<(), WriteFailed>
+/// Puts a byte after what is held, as [`put`] puts a piece.
+pub fn put_byte<S: Sink>(out: &mut S, block: &mut Block, byte: u8) -> Result<(), WriteFailed>
     ensures { Put (S.seen out.old) (S.seen out.new) block.old block.new (byte ∷ []) (is_ok result) }
 {
     if block.hold_byte(byte) {
