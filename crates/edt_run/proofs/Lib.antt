@@ -9,3 +9,5 @@ pub mod RunLaws
 pub mod SmallLaws
 pub mod SourceLaws
 pub mod TokenLaws
+pub mod TreeAnswerLaws
+pub mod TreeLaws

@@ -13,3 +13,5 @@ pub mod SmallAnswer
 pub mod Steps
 pub mod Tokens
 pub mod Trail
+pub mod TreeAnswer
+pub mod TreeSteps

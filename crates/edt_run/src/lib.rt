@@ -14,6 +14,7 @@ mod sources;
 mod token;
 mod top;
 mod trail;
+mod tree_job;
 mod words;
 
 pub use asked::{Cmd, Job};

@@ -6,6 +6,7 @@ ghost use Rattle.edt_run.specs.Steps.{Ran, IsSaid};
 use crate::decision::{Decision, decide};
 use crate::header::emit;
 use crate::words::job;
+use dts_print::print;
 use edt_base::{Files, Sink, Words, write_text};
 use std::alloc::Global;
 
@@ -64,6 +65,10 @@ fn carry_out<F: Files, O: Sink, E: Sink>(
         Ok(Some(job)) => match decide(alloc, &job, files) {
             Err(_) => say(note, Status::Memory, "edt: memory\n"),
             Ok(Decision::Refusal(status, line)) => say(note, status, line.as_str()),
+            Ok(Decision::Source(tree)) => match print(&tree, out) {
+                Ok(()) => say(note, Status::Done, ""),
+                Err(_) => say(note, Status::Write, "edt: write\n"),
+            },
             Ok(Decision::Header(writer, nodes)) => match emit(writer, nodes.as_slice(), out) {
                 Ok(()) => say(note, Status::Done, ""),
                 Err(_) => say(note, Status::Write, "edt: write\n"),

@@ -1,0 +1,11 @@
+//! The source that prints a tree (Devicetree Specification v0.4, chapter 6), written without memory.
+#![tactic(auto)]
+
+mod block;
+mod length;
+mod node;
+mod part;
+mod source;
+
+pub use length::print_len;
+pub use source::print;

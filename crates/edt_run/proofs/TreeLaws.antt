@@ -1,0 +1,82 @@
+-- The steps of `dts` lead to its answer.
+use Rattle.std.proofs.Common.{◌≡◌, ◌≤◌, ◌<◌, ◌++◌, ◌∙◌, ℕ, suc, Bool, true, false, List, [], ◌∷◌, Result, Ok, Err, length, drop, codes, nat_eq, nat_lt, if◌then◌else◌, refl, sym, ap, subst, inl, inr, arith, append-nil, append_assoc}
+use Rattle.edt_base.specs.TreeData.{TreeData}
+use Rattle.edt_base.specs.declared.fault.Fault.{Fault}
+use Rattle.edt_base.specs.declared.fault.End.{End}
+use Rattle.edt_base.specs.declared.fault.End.TheVariants as ending
+use Rattle.edt_base.specs.declared.fault.Rule.TheVariants as rule
+use Rattle.edt_base.specs.declared.fault.Place.TheVariants as place
+use Rattle.dts_parse.specs.Source.{BreaksNone, IsFirstFault, IsScript}
+use Rattle.dts_parse.specs.StmtData.{StmtData}
+use Rattle.dts_tree.specs.Outcome.{Answers, outcome}
+use Rattle.dts_print.specs.Printed.{printed}
+use Rattle.edt_run.specs.Answer.{Answer, done, refused}
+use Rattle.edt_run.specs.TreeAnswer.{AreScripts, IsFaultOf, IsFirstOf, IsTreeAnswer, over_tree, print_limit}
+use Rattle.edt_run.specs.TreeSteps.{AreScriptsOr, IsOver}
+
+-- ---- the statements of the sources, one source after another
+
+-- what is found of the sources from a place on is found of all
+pub record IsAlong (names sources : List (List ℕ)) (at : ℕ) (scripts : List (List StmtData)) : Type 0 where
+  pub good : (rest : List (List StmtData)) → AreScripts (nat_eq at 0) (drop at sources) rest → AreScripts true sources (scripts ++ rest)
+  pub bad : (f : Fault) → IsFirstOf (nat_eq at 0) (drop at names) (drop at sources) f → IsFirstOf true names sources f
+
+pub along_none : (names sources : List (List ℕ)) → IsAlong names sources 0 []
+along_none names sources = record { good = λ rest h. h; bad = λ f h. h }
+
+pub along_more : (names sources : List (List ℕ)) (at : ℕ) (scripts : List (List StmtData)) (name source : List ℕ) (script : List StmtData)
+    → drop at names ≡ name ∷ drop (suc at) names → drop at sources ≡ source ∷ drop (suc at) sources
+    → IsScript source (nat_eq at 0) script → BreaksNone source (nat_eq at 0) → IsAlong names sources at scripts
+    → IsAlong names sources (suc at) (scripts ++ script ∷ [])
+along_more names sources at scripts name source script name_is source_is is none along = record {
+  good = λ rest h. subst (λ l. AreScripts true sources l) (sym (append_assoc scripts (script ∷ []) rest))
+      (along.good (script ∷ rest) (subst (λ l. AreScripts (nat_eq at 0) l (script ∷ rest)) (sym source_is) (is, (none, h))));
+  bad = λ f h. along.bad f (subst (λ l. IsFirstOf (nat_eq at 0) l (drop at sources) f) (sym name_is)
+      (subst (λ l. IsFirstOf (nat_eq at 0) (name ∷ drop (suc at) names) l f) (sym source_is) (inr (none, h))));
+}
+
+-- a source's first fault is that of the sources
+pub along_fault : (names sources : List (List ℕ)) (at : ℕ) (scripts : List (List StmtData)) (name source : List ℕ) (f : Fault)
+    → drop at names ≡ name ∷ drop (suc at) names → drop at sources ≡ source ∷ drop (suc at) sources
+    → IsFaultOf (nat_eq at 0) name source f → IsAlong names sources at scripts → IsFirstOf true names sources f
+along_fault names sources at scripts name source f name_is source_is is along =
+    along.bad f (subst (λ l. IsFirstOf (nat_eq at 0) l (drop at sources) f) (sym name_is)
+    (subst (λ l. IsFirstOf (nat_eq at 0) (name ∷ drop (suc at) names) l f) (sym source_is) (inl is)))
+
+-- what `parse` says of a fault
+pub fault_of : {T : Type 0} (base : Bool) (name source : List ℕ) (f : Fault) → IsFirstFault {T} name source base (Err (ending.Fault f)) → IsFaultOf base name source f
+fault_of base name source f h = (h.0, h.1.0, h.1.1.1, h.1.1.0)
+
+pub along_all : (names sources : List (List ℕ)) (at : ℕ) (scripts : List (List StmtData)) → drop at sources ≡ [] → IsAlong names sources at scripts → AreScripts true sources scripts
+along_all names sources at scripts none along =
+    subst (λ l. AreScripts true sources l) (append-nil scripts)
+    (along.good [] (subst (λ l. AreScripts (nat_eq at 0) l []) (sym none) tt))
+
+-- ---- the tree
+
+refused_by_scripts : (names sources : List (List ℕ)) (f : Fault) → IsFirstOf true names sources f → IsTreeAnswer names sources (refused f)
+refused_by_scripts names sources f h = inl (f, h, refl)
+
+pub stopped_at_scripts : (names sources : List (List ℕ)) (end : End) → AreScriptsOr true names sources (Err end) → IsOver names sources (Err end)
+stopped_at_scripts names sources (ending.Fault f) h = refused_by_scripts names sources f h
+stopped_at_scripts names sources (ending.Memory e) h = tt
+
+pub stopped_at_tree : (names sources : List (List ℕ)) (scripts : List (List StmtData)) (end : End) → AreScripts true sources scripts
+    → Answers (outcome names scripts) (Err end) → IsOver names sources (Err end)
+stopped_at_tree names sources scripts (ending.Fault f) h is = inr (scripts, h, ap over_tree (sym is))
+stopped_at_tree names sources scripts (ending.Memory e) h is = tt
+
+too_much : (tree : TreeData) → print_limit < length (printed tree) → over_tree (Ok tree) ≡ refused (record { rule = rule.L10; place = place.Node (codes "/") })
+too_much tree more = grind (arith, more)
+
+fits : (tree : TreeData) → length (printed tree) ≤ print_limit → over_tree (Ok tree) ≡ done (printed tree)
+fits tree less = grind (arith, less)
+
+pub stopped_at_limit : (names sources : List (List ℕ)) (scripts : List (List StmtData)) (tree : TreeData) → AreScripts true sources scripts
+    → outcome names scripts ≡ Ok tree → print_limit < length (printed tree)
+    → IsTreeAnswer names sources (refused (record { rule = rule.L10; place = place.Node (codes "/") }))
+stopped_at_limit names sources scripts tree h is more = inr (scripts, h, sym (ap over_tree is ∙ too_much tree more))
+
+-- what is found over the sources is the answer
+pub answer_of_tree : (names sources : List (List ℕ)) (tree : TreeData) → IsOver names sources (Ok tree) → IsTreeAnswer names sources (done (printed tree))
+answer_of_tree names sources tree h = inr (h.0, h.1, sym (ap over_tree h.2 ∙ fits tree h.3))
