@@ -1,39 +1,58 @@
 //! The source that prints a tree.
 
-use crate::block::{Block, flush, put, put_byte};
-use crate::node::{put_ends, put_node};
-use edt_base::{NodeRec, Sink, Tree, WriteFailed};
+ghost use Rattle.std.specs.Prelude.{◌++◌, ◌-◌, ◌^◌, ◌<◌, is_ok};
+ghost use Rattle.edt_base.specs.Outside.{Wrote};
+ghost use Rattle.edt_base.specs.Put.{Put};
+ghost use Rattle.dts_print.specs.Printed.{printed};
+ghost use Rattle.dts_print.specs.Inner.Steps.{closings, head_text, text_from};
 
-/// Writes the source that prints a tree.
-pub fn print<S: Sink>(tree: &Tree, out: &mut S) -> Result<(), WriteFailed> {
+use crate::depth::depth_of;
+use crate::node::{put_closings, put_head};
+use edt_base::{Block, NodeRec, Sink, Tree, WriteFailed, flush, put};
+
+/// Writes the source that prints a tree, as `printed` in `specs/Printed.antt` has it. With
+/// `WriteFailed`, which comes only where the sink's count of faults rose, a prefix of it was written.
+/// Takes no memory.
+pub fn print<S: Sink>(tree: &Tree, out: &mut S) -> Result<(), WriteFailed>
+    ensures { Wrote (S.seen out.old) (S.seen out.new) (printed tree.now) (is_ok result) }
+{
+    tree.is_well_formed();
     let mut block = Block::new();
     put(out, &mut block, b"/dts-v1/;\n")?;
-    let nodes = tree.nodes().as_slice();
-    let mut open = 0;
-    for (place, node) in nodes.iter().enumerate() {
-        let depth = depth_of(nodes, place);
-        put_ends(out, &mut block, open, depth)?;
-        put_node(out, &mut block, depth, node)?;
-        open = depth + 1;
-    }
-    put_ends(out, &mut block, open, 0)?;
+    put_nodes(out, &mut block, tree.nodes().as_slice())?;
     flush(out, &mut block)
 }
 
-fn depth_of(nodes: &[NodeRec], place: usize) -> usize {
-    let mut depth = 0;
-    let mut at = place;
-    for _ in 0..nodes.len() {
-        match nodes.get(at) {
-            Some(node) => match node.parent {
-                Some(parent) => {
-                    depth += 1;
-                    at = parent.0 as usize;
-                }
-                None => return depth,
-            },
-            None => return depth,
-        }
+// Puts nodes in preorder, each with the lines that close those before it.
+fn put_nodes<S: Sink>(
+    out: &mut S,
+    block: &mut Block,
+    nodes: &[NodeRec],
+) -> Result<(), WriteFailed>
+    ensures { Put (S.seen out.old) (S.seen out.new) block.old block.new
+        (text_from nodes.now 0 0 nodes.now) (is_ok result) }
+{
+    let mut opened = 0;
+    for (place, node) in nodes.iter().enumerate() {
+        let depth = depth_of(nodes, node.parent, opened, place);
+        put_next(out, block, opened, depth, node)?;
+        opened = depth + 1;
     }
-    depth
+    put_closings(out, block, opened, 0)
+}
+
+// Puts the lines that close nodes, and those of the node after them.
+fn put_next<S: Sink>(
+    out: &mut S,
+    block: &mut Block,
+    opened: usize,
+    depth: usize,
+    node: &NodeRec,
+) -> Result<(), WriteFailed>
+    requires { depth < 2 ^ 64 - 1 }
+    ensures { Put (S.seen out.old) (S.seen out.new) block.old block.new
+        (closings opened depth ++ head_text depth node.now) (is_ok result) }
+{
+    put_closings(out, block, opened, depth)?;
+    put_head(out, block, depth, node)
 }

@@ -1,0 +1,4 @@
+pub mod Digits
+pub mod Preorder
+pub mod Runs
+pub mod Steps

@@ -1,0 +1,25 @@
+use Rattle.std.proofs.Common.{codes, ◌++◌}
+use Rattle.dts_print.specs.Printed.{joined, list_text, number_text}
+use Rattle.dts_print.specs.Inner.Numbers.{numbers_of}
+use Rattle.edt_base.proofs.Puts.{put_then, put_stops, not_done, failed}
+use Rattle.dts_print.proofs.part.put_list.Goals as goal
+
+pub returns-in_err-put : goal.returns-in_err-put
+unfolding list_text
+returns-in_err-put g c =
+    not_done _ _ _ _ _ _ (failed c.from_residual.result c.from_residual.ensures.0)
+    (put_stops (g.S.Sink.seen c.args.out.now) (g.S.Sink.seen c.put.new.out) _ _ _ (codes "<") (joined (codes " ") number_text (numbers_of c.args.width c.args.bytes.now) ++ (codes ">")) c.in_err-put.ensures)
+
+pub returns-in_err-put_numbers : goal.returns-in_err-put_numbers
+unfolding list_text
+returns-in_err-put_numbers g c =
+    not_done _ _ _ _ _ _ (failed c.from_residual-in_err-put_numbers.result c.from_residual-in_err-put_numbers.ensures.0)
+    (put_then (g.S.Sink.seen c.args.out.now) (g.S.Sink.seen c.put.new.out) _ _ _ _ (codes "<") _ _ c.in_ok-put.ensures
+    (put_stops _ (g.S.Sink.seen c.put_numbers.new.out) _ _ _ (joined (codes " ") number_text (numbers_of c.args.width c.args.bytes.now)) (codes ">") c.in_err-put_numbers.ensures))
+
+pub returns : goal.returns
+unfolding list_text
+returns g c =
+    put_then (g.S.Sink.seen c.args.out.now) (g.S.Sink.seen c.put.new.out) _ _ _ _ (codes "<") _ _ c.in_ok-put.ensures
+    (put_then _ (g.S.Sink.seen c.put_numbers.new.out) _ _ _ _ (joined (codes " ") number_text (numbers_of c.args.width c.args.bytes.now)) _ _ c.in_ok-put_numbers.ensures
+    c.put-2.ensures)

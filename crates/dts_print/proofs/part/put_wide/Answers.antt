@@ -1,0 +1,16 @@
+use Rattle.std.proofs.Common.{codes, ◌++◌}
+use Rattle.dts_print.specs.Printed.{list_text}
+use Rattle.dts_print.specs.Inner.Numbers.{numbers_of}
+use Rattle.dts_print.specs.declared.part.Width.TheVariants.{Half}
+use Rattle.edt_base.proofs.Puts.{put_then, put_stops, not_done, failed}
+use Rattle.dts_print.proofs.part.put_wide.Goals as goal
+
+pub returns-in_err-put : goal.returns-in_err-put
+returns-in_err-put g c =
+    not_done _ _ _ _ _ _ (failed c.from_residual.result c.from_residual.ensures.0)
+    (put_stops (g.S.Sink.seen c.args.out.now) (g.S.Sink.seen c.put.new.out) _ _ _ (codes "/bits/ 16 ") (list_text (numbers_of Half c.args.bytes.now)) c.in_err-put.ensures)
+
+pub returns : goal.returns
+returns g c =
+    put_then (g.S.Sink.seen c.args.out.now) (g.S.Sink.seen c.put.new.out) _ _ _ _ (codes "/bits/ 16 ") _ _ c.in_ok-put.ensures
+    c.put_list.ensures
