@@ -4,7 +4,6 @@ pub mod Forests
 pub mod Headers
 pub mod NestingLaws
 pub mod PromiseLaws
-pub mod Puts
 pub mod RunLaws
 pub mod SmallLaws
 pub mod SourceLaws

@@ -8,7 +8,8 @@ use Rattle.edt_base.specs.declared.fault.Rule.TheVariants as rule
 use Rattle.edt_base.specs.declared.fault.Place.TheVariants as place
 use Rattle.dts_parse.specs.Source.{BreaksNone, IsFirstFault, IsScript}
 use Rattle.dts_parse.specs.StmtData.{StmtData}
-use Rattle.dts_tree.specs.Outcome.{Answers, outcome}
+use Rattle.dts_tree.specs.Outcome.{outcome}
+use Rattle.dts_tree.specs.References.{Answers}
 use Rattle.dts_print.specs.Printed.{printed}
 use Rattle.edt_run.specs.Answer.{Answer, done, refused}
 use Rattle.edt_run.specs.TreeAnswer.{AreScripts, IsFaultOf, IsFirstOf, IsTreeAnswer, over_tree, print_limit}

@@ -47,7 +47,7 @@ pub record IsSaid (old new : SinkSeen) (line : List ℕ) (said result : Status) 
 
 -- the answer that a decision leads to
 abbrev pub wanted_of : Decision → Answer
-wanted_of (decision.Header writer nodes) = done (header (forest_of nodes.items))
+wanted_of (decision.Header nodes) = done (header (forest_of nodes.items))
 wanted_of (decision.Source tree) = done (printed tree)
 wanted_of (decision.Refusal said line) = refusal said (string_bytes line)
 

@@ -10,7 +10,6 @@ ghost use Rattle.edt_run.specs.TreeAnswer.{IsTreeAnswer};
 ghost use Rattle.edt_run.specs.Steps.{IsRefusedBy, IsWanted, wanted_of};
 
 use crate::asked::{Cmd, Job};
-use crate::header::{HeaderWriter, prepare};
 use crate::node::Node;
 use crate::reader::read_small;
 use crate::sources::{Stop, read_sources};
@@ -23,7 +22,7 @@ use std::alloc::{AllocError, Global};
 #[derive(Drop)]
 pub(crate) enum Decision {
     /// Write the header of these nodes.
-    Header(HeaderWriter, Vec<Node>),
+    Header(Vec<Node>),
     /// Write this tree as a source.
     Source(Tree),
     /// Write nothing but this line to the note, and end so.
@@ -83,10 +82,7 @@ fn small_header(alloc: Global, name: &Text, source: &Bytes) -> Result<Decision, 
     ensures { IfOk result (λ d. IsSmallAnswer name.now source.now (wanted_of d)) }
 {
     match read_small(alloc, source.as_slice())? {
-        Some(nodes) => {
-            let writer = prepare(alloc)?;
-            Ok(Decision::Header(writer, nodes))
-        }
+        Some(nodes) => Ok(Decision::Header(nodes)),
         None => {
             let place = Place::Byte(name.copy(alloc)?, 0);
             refuse(

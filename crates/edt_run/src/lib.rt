@@ -4,7 +4,6 @@
 mod apart;
 mod asked;
 mod decision;
-mod gather;
 mod header;
 mod laws;
 mod node;
