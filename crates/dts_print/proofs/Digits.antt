@@ -2,7 +2,7 @@
 use Rattle.std.proofs.Common.{◌≡◌, ◌∙◌, ◌==◌, ◌+◌, ◌/◌, ◌%◌, ◌^◌, ◌<◌, ◌≤◌, ◌++◌, ℕ, zero, suc, Bool, true, false, List, [], ◌∷◌, if◌then◌else◌, length, refl, sym, ap, append_assoc, length-append, arith}
 use Rattle.std.proofs.lemmas.Bool.Decides.{nat_tests}
 use Rattle.std.proofs.lemmas.Fmt.{hex_one_digit}
-use Rattle.core.specs.Fmt.{digit_glyph, digits, digits_onto}
+use Rattle.std.specs.Fmt.{digit_glyph, digits, digits_onto}
 
 abbrev last_of : ℕ → ℕ
 last_of n = digit_glyph false (n % 16)
@@ -10,16 +10,15 @@ last_of n = digit_glyph false (n % 16)
 -- the digits stand before those that follow
 onto_append : (k n : ℕ) (after : List ℕ) → digits_onto k 16 false n after ≡ digits_onto k 16 false n [] ++ after
 onto_append zero n after = refl
-onto_append (suc k) n after = by_test (n / 16 == 0)
+onto_append (suc k) n after = by_test (n / 16 == 0) (onto_append k (n / 16) (last_of n ∷ after)) (onto_append k (n / 16) (last_of n ∷ []))
   where
-    more : digits_onto k 16 false (n / 16) (last_of n ∷ after) ≡ digits_onto k 16 false (n / 16) (last_of n ∷ []) ++ after
-    more = onto_append k (n / 16) (last_of n ∷ after)
-        ∙ (sym (append_assoc (digits_onto k 16 false (n / 16) []) (last_of n ∷ []) after)
-        ∙ ap (λ t. t ++ after) (sym (onto_append k (n / 16) (last_of n ∷ []))))
-    by_test : (b : Bool) → (if b then last_of n ∷ after else digits_onto k 16 false (n / 16) (last_of n ∷ after))
+    by_test : (b : Bool) → digits_onto k 16 false (n / 16) (last_of n ∷ after) ≡ digits_onto k 16 false (n / 16) [] ++ (last_of n ∷ after)
+        → digits_onto k 16 false (n / 16) (last_of n ∷ []) ≡ digits_onto k 16 false (n / 16) [] ++ (last_of n ∷ [])
+        → (if b then last_of n ∷ after else digits_onto k 16 false (n / 16) (last_of n ∷ after))
         ≡ (if b then last_of n ∷ [] else digits_onto k 16 false (n / 16) (last_of n ∷ [])) ++ after
-    by_test true = refl
-    by_test false = more
+    by_test true more last = refl
+    by_test false more last = more
+        ∙ (sym (append_assoc (digits_onto k 16 false (n / 16) []) (last_of n ∷ []) after) ∙ ap (λ t. t ++ after) (sym last))
 
 -- the number has no more digits than one and so many
 abbrev IsShort : ℕ → ℕ → Type 0

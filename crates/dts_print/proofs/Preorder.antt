@@ -1,5 +1,5 @@
 -- The nodes in preorder, each closing those that it doesn't stand in, give the text that follows the children.
-use Rattle.std.proofs.Common.{◌≡◌, ◌∙◌, ◌==◌, ◌+◌, ◌-◌, ◌<◌, ◌≤◌, ◌++◌, ℕ, zero, suc, Bool, true, false, List, [], ◌∷◌, Option, Some, None, IsSomeAnd, codes, if◌then◌else◌, drop, length, nat_le, slice_get, option_and_then, unwrap_or, refl, sym, ap, subst, append_assoc, add-one, arith}
+use Rattle.std.proofs.Common.{◌≡◌, ◌∙◌, ◌==◌, ◌+◌, ◌-◌, ◌<◌, ◌≤◌, ◌++◌, ℕ, zero, suc, Bool, true, false, List, [], ◌∷◌, Option, Some, None, IsSomeAnd, codes, if◌then◌else◌, drop, length, nat_le, slice_get, option_and_then, unwrap_or, refl, sym, ap, subst, append_assoc, add-one, arith, length-append}
 use Rattle.std.specs.List.{flat_map}
 use Rattle.std.specs.Option.{option_map_or}
 use Rattle.std.proofs.lemmas.Bool.{le-leb}
@@ -96,18 +96,16 @@ kids : (f : ℕ → List ℕ) (nodes : List NodeData) (parent depth : ℕ) (ms :
     → flat_map f (children_from first ms parent) ≡ below ms first parent depth
 kids f nodes parent depth [] first at above each = refl
 kids f nodes parent depth (m ∷ ms) first at above each =
-    by_test (holds_number parent m.parent)
+    let here : (slice_get nodes first ≡ Some m) × (ms ≡ drop (first + 1) nodes) = at_place nodes first m ms at in
+    let one : f first ≡ around depth m (below ms (first + 1) first (depth + 1)) =
+    subst (λ ns. f first ≡ around depth m (below ns (first + 1) first (depth + 1))) (sym here.1) (each first m above here.0) in
+    by_test (holds_number parent m.parent) one (kids f nodes parent depth ms (first + 1) here.1 (omega arith) each)
   where
-    here : (slice_get nodes first ≡ Some m) × (ms ≡ drop (first + 1) nodes)
-    here = at_place nodes first m ms at
-    rest : flat_map f (children_from (first + 1) ms parent) ≡ below ms (first + 1) parent depth
-    rest = kids f nodes parent depth ms (first + 1) here.1 (omega arith) each
-    one : f first ≡ around depth m (below ms (first + 1) first (depth + 1))
-    one = rw here.1 (each first m above here.0)
-    by_test : (b : Bool) → flat_map f (if b then first ∷ children_from (first + 1) ms parent else children_from (first + 1) ms parent)
+    by_test : (b : Bool) → f first ≡ around depth m (below ms (first + 1) first (depth + 1)) → flat_map f (children_from (first + 1) ms parent) ≡ below ms (first + 1) parent depth
+        → flat_map f (if b then first ∷ children_from (first + 1) ms parent else children_from (first + 1) ms parent)
         ≡ (if b then around depth m (below ms (first + 1) first (depth + 1)) ++ below ms (first + 1) parent depth else below ms (first + 1) parent depth)
-    by_test true = rw (one, rest) refl
-    by_test false = rest
+    by_test true one rest = ap (λ text. text ++ flat_map f (children_from (first + 1) ms parent)) one ∙ ap (λ text. around depth m (below ms (first + 1) first (depth + 1)) ++ text) rest
+    by_test false one rest = rest
 
 -- a node's text by its children is that by parents
 node_is : (t : TreeData) → IsWellFormed t → (levels depth id : ℕ) (n : NodeData) → slice_get t.nodes id ≡ Some n → length t.nodes ≤ levels + id
@@ -158,41 +156,43 @@ above_both nodes a b c high (further j p r is over) = further c p a is (above_bo
 closed : (t : TreeData) → IsWellFormed t → (b p place : ℕ) → parent_of t.nodes place ≡ Some p → IsAtOrAbove t.nodes p b → (p ≡ b → ⊥) → b < place
     → (k : ℕ) → IsAtOrAbove t.nodes b (place + k) → ⊥
 closed t well b p place is over other early zero above =
-    let e : place + zero ≡ place = omega arith in first (subst (λ j. IsAtOrAbove t.nodes b j) e above)
+    let e : place + zero ≡ place = omega arith in first place refl (subst (λ j. IsAtOrAbove t.nodes b j) e above)
   where
-    first : IsAtOrAbove t.nodes b place → ⊥
-    first (itself j) = absurd (omega arith)
-    first (further j q r up over_q) =
+    first : (i : ℕ) → i ≡ place → IsAtOrAbove t.nodes b i → ⊥
+    first i at (itself j) = absurd (omega arith)
+    first i at (further j q r up_q over_q) =
+        let there : parent_of t.nodes i ≡ Some p = ap (parent_of t.nodes) at ∙ is in
         let same : q ≡ p = cc in
         let low : b ≤ p = subst (λ x. b ≤ x) same (not_after t well b q over_q) in
         let high : p ≤ b = not_after t well p b over in
         other (omega arith)
 closed t well b p place is over other early (suc k) above =
-    let e : place + suc k ≡ (place + k) + 1 = omega arith in next (subst (λ j. IsAtOrAbove t.nodes b j) e above)
+    let e : place + suc k ≡ (place + k) + 1 = omega arith in
+    next (closed t well b p place is over other early k) ((place + k) + 1) refl (subst (λ j. IsAtOrAbove t.nodes b j) e above)
   where
     by_node : (q : ℕ) (o : Option NodeData) → slice_get t.nodes ((place + k) + 1) ≡ o → option_and_then (λ (m : NodeData). m.parent) o ≡ Some q → IsAtOrAbove t.nodes q (place + k)
     by_node q None e h = cc
     by_node q (Some m) e h = well.preorder (place + k) q m e h
-    next : IsAtOrAbove t.nodes b ((place + k) + 1) → ⊥
-    next (itself j) = absurd (omega arith)
-    next (further j q r up over_q) =
-        closed t well b p place is over other early k (above_both t.nodes b q (place + k) over_q (by_node q (slice_get t.nodes ((place + k) + 1)) refl up))
+    next : (IsAtOrAbove t.nodes b (place + k) → ⊥) → (i : ℕ) → i ≡ (place + k) + 1 → IsAtOrAbove t.nodes b i → ⊥
+    next earlier i at (itself j) = absurd (omega arith)
+    next earlier i at (further j q r up_q over_q) =
+        let there : parent_of t.nodes ((place + k) + 1) ≡ Some q = subst (λ x. parent_of t.nodes x ≡ Some q) at up_q in
+        earlier (above_both t.nodes b q (place + k) over_q (by_node q (slice_get t.nodes ((place + k) + 1)) refl there))
 
 -- so no node from there on stands in it
 none_below : (t : TreeData) → IsWellFormed t → (b p place : ℕ) → parent_of t.nodes place ≡ Some p → IsAtOrAbove t.nodes p b → (p ≡ b → ⊥) → b < place
     → (ns : List NodeData) (k depth : ℕ) → ns ≡ drop (place + k) t.nodes → below ns (place + k) b depth ≡ []
 none_below t well b p place is over other early [] k depth at = refl
 none_below t well b p place is over other early (n ∷ ns) k depth at =
+    let e : (place + k) + 1 ≡ place + suc k = omega arith in
+    let rest : below ns ((place + k) + 1) b depth ≡ [] =
+    subst (λ j. below ns j b depth ≡ []) (sym e)
+    (none_below t well b p place is over other early ns (suc k) depth (subst (λ j. ns ≡ drop j t.nodes) e (at_place t.nodes (place + k) n ns at).1)) in
     ap (λ (v : Bool). if v then around depth n (below ns ((place + k) + 1) (place + k) (depth + 1)) ++ below ns ((place + k) + 1) b depth else below ns ((place + k) + 1) b depth) test
     ∙ rest
   where
     here : (slice_get t.nodes (place + k) ≡ Some n) × (ns ≡ drop ((place + k) + 1) t.nodes)
     here = at_place t.nodes (place + k) n ns at
-    e : (place + k) + 1 ≡ place + suc k
-    e = omega arith
-    rest : below ns ((place + k) + 1) b depth ≡ []
-    rest = subst (λ j. below ns j b depth ≡ []) (sym e)
-        (none_below t well b p place is over other early ns (suc k) depth (subst (λ j. ns ≡ drop j t.nodes) e here.1))
     apart : (o : Option ℕ) → n.parent ≡ o → holds_number b o ≡ false
     apart None is_none = refl
     apart (Some q) is_some = by_test (q == b) refl
@@ -248,23 +248,25 @@ climb t well place p is ns from (suc depth) at early (further i q r up_is_q over
       ∙ sym (ap (λ (b : Bool). (if b then closing_text (suc depth) ++ closings (suc depth) (suc e) else []) ++ left t.nodes place ns (suc e) p) goes)))),
     )
 
+-- a node that isn't the parent has the same below it past a child of the parent
+one_past : (place p b depth : ℕ) (n : NodeData) (ns : List NodeData) → n.parent ≡ Some p → b < p → below (n ∷ ns) place b depth ≡ below ns (place + 1) b depth
+one_past place p b depth n ns is low =
+    let apart : (p == b) ≡ false = grind (arith, nat_tests) in
+    ap (λ (v : Bool). if v then around depth n (below ns (place + 1) place (depth + 1)) ++ below ns (place + 1) b depth else below ns (place + 1) b depth)
+    (ap (holds_number b) is ∙ apart)
+
 -- what is left of the nodes above a parent is the same past its child
 others : (t : TreeData) → IsWellFormed t → (place p : ℕ) (n : NodeData) (ns : List NodeData) → n.parent ≡ Some p
     → (depth b : ℕ) → HasDepth t.nodes depth b → b < p → left t.nodes place (n ∷ ns) (suc depth) b ≡ left t.nodes (place + 1) ns (suc depth) b
-others t well place p n ns is depth b has low =
-    ap (λ text. text ++ (closing_text depth ++ left t.nodes place (n ∷ ns) depth (up t.nodes b))) here
-    ∙ ap (λ text. below ns (place + 1) b (suc depth) ++ (closing_text depth ++ text)) (above depth has)
-  where
-    test : holds_number b n.parent ≡ false
-    test = let apart : (p == b) ≡ false = grind (arith, nat_tests) in ap (holds_number b) is ∙ apart
-    here : below (n ∷ ns) place b (suc depth) ≡ below ns (place + 1) b (suc depth)
-    here = ap (λ (v : Bool). if v then around (suc depth) n (below ns (place + 1) place (suc depth + 1)) ++ below ns (place + 1) b (suc depth) else below ns (place + 1) b (suc depth)) test
-    above : (d : ℕ) → HasDepth t.nodes d b → left t.nodes place (n ∷ ns) d (up t.nodes b) ≡ left t.nodes (place + 1) ns d (up t.nodes b)
-    above zero h = refl
-    above (suc d) h =
-        let l : h.0 < b = before t b h.0 well h.1 in
-        subst (λ j. left t.nodes place (n ∷ ns) (suc d) j ≡ left t.nodes (place + 1) ns (suc d) j) (sym (up_is t.nodes b h.0 h.1))
-        (others t well place p n ns is d h.0 h.2 (omega arith))
+others t well place p n ns is zero b has low =
+    ap (λ text. text ++ (closing_text 0 ++ left t.nodes place (n ∷ ns) 0 (up t.nodes b))) (one_past place p b 1 n ns is low)
+others t well place p n ns is (suc depth) b has low =
+    let l : has.0 < b = before t b has.0 well has.1 in
+    let deeper : left t.nodes place (n ∷ ns) (suc depth) (up t.nodes b) ≡ left t.nodes (place + 1) ns (suc depth) (up t.nodes b) =
+    subst (λ j. left t.nodes place (n ∷ ns) (suc depth) j ≡ left t.nodes (place + 1) ns (suc depth) j) (sym (up_is t.nodes b has.0 has.1))
+    (others t well place p n ns is depth has.0 has.2 (omega arith)) in
+    ap (λ text. text ++ (closing_text (suc depth) ++ left t.nodes place (n ∷ ns) (suc depth) (up t.nodes b))) (one_past place p b (suc (suc depth)) n ns is low)
+    ∙ ap (λ text. below ns (place + 1) b (suc (suc depth)) ++ (closing_text (suc depth) ++ text)) deeper
 
 -- the next node is a child of the innermost open one
 descend : (t : TreeData) → IsWellFormed t → (place p : ℕ) (n : NodeData) (ns : List NodeData) → n.parent ≡ Some p → parent_of t.nodes place ≡ Some p
@@ -305,13 +307,15 @@ all_close t place (suc depth) at =
 walk : (t : TreeData) → IsWellFormed t → (ns : List NodeData) (at depth : ℕ) → ns ≡ drop (at + 1) t.nodes → HasDepth t.nodes depth at
     → text_from t.nodes (at + 1) (suc depth) ns ≡ left t.nodes (at + 1) ns (suc depth) at
 walk t well [] at depth from has = all_close t (at + 1) (suc depth) at
-walk t well (n ∷ ns) at depth from has = by_parent n.parent refl
+walk t well (n ∷ ns) at depth from has = by_parent n.parent refl (λ e next. walk t well ns (at + 1) (suc e) here.1 next)
   where
     here : (slice_get t.nodes (at + 1) ≡ Some n) × (ns ≡ drop ((at + 1) + 1) t.nodes)
     here = at_place t.nodes (at + 1) n ns from
-    by_parent : (o : Option ℕ) → n.parent ≡ o → text_from t.nodes (at + 1) (suc depth) (n ∷ ns) ≡ left t.nodes (at + 1) (n ∷ ns) (suc depth) at
-    by_parent None is = let first : at + 1 ≡ 0 = well.alone (at + 1) n here.0 is in absurd (omega arith)
-    by_parent (Some p) is =
+    by_parent : (o : Option ℕ) → n.parent ≡ o
+        → ((e : ℕ) → HasDepth t.nodes (suc e) (at + 1) → text_from t.nodes ((at + 1) + 1) (suc (suc e)) ns ≡ left t.nodes ((at + 1) + 1) ns (suc (suc e)) (at + 1))
+        → text_from t.nodes (at + 1) (suc depth) (n ∷ ns) ≡ left t.nodes (at + 1) (n ∷ ns) (suc depth) at
+    by_parent None is later = let first : at + 1 ≡ 0 = well.alone (at + 1) n here.0 is in absurd (omega arith)
+    by_parent (Some p) is later =
         let up_next : parent_of t.nodes (at + 1) ≡ Some p = parent_is t.nodes (at + 1) n here.0 ∙ is in
         let c = climb t well (at + 1) p up_next (n ∷ ns) from depth at (omega arith) (well.preorder at p n here.0 is) has in
         let e : ℕ = c.0 in
@@ -321,7 +325,7 @@ walk t well (n ∷ ns) at depth from has = by_parent n.parent refl
         let next : HasDepth t.nodes (suc e) (at + 1) = (p, up_next, c.3) in
         ap (λ d. closings (suc depth) d ++ (head_text d n ++ text_from t.nodes ((at + 1) + 1) (d + 1) ns)) deep
         ∙ (ap (λ d. closings (suc depth) (suc e) ++ (head_text (suc e) n ++ text_from t.nodes ((at + 1) + 1) d ns)) (add-one (suc e))
-        ∙ (ap (λ text. closings (suc depth) (suc e) ++ (head_text (suc e) n ++ text)) (walk t well ns (at + 1) (suc e) here.1 next)
+        ∙ (ap (λ text. closings (suc depth) (suc e) ++ (head_text (suc e) n ++ text)) (later e next)
         ∙ (ap (λ text. closings (suc depth) (suc e) ++ text) (sym (descend t well (at + 1) p n ns is up_next e c.3)) ∙ sym c.4)))
 
 -- the source is its first line, and the text from the root on
@@ -343,3 +347,6 @@ printed_is t well = ap (λ text. codes "/dts-v1/;\n" ++ text) (by_root (slice_ge
         ∙ (ap (λ s. (opening_text 0 n ++ flat_map (prop_text 0) n.props) ++ s) (sym (walk t well ns 0 0 refl has))
         ∙ (ap (λ o. closings 0 (depth_of t.nodes o 0 0) ++ ((opening_text (depth_of t.nodes o 0 0) n ++ flat_map (prop_text (depth_of t.nodes o 0 0)) n.props) ++ text_from t.nodes (0 + 1) (depth_of t.nodes o 0 0 + 1) ns)) (sym root)
         ∙ ap (text_from t.nodes 0 0) (sym all)))))
+
+pub printed_long : (t : TreeData) → IsWellFormed t → length (printed t) ≡ length (text_from t.nodes 0 0 t.nodes) + 10
+printed_long t well = ap length (printed_is t well) ∙ (length-append (codes "/dts-v1/;\n") (text_from t.nodes 0 0 t.nodes) ∙ omega arith)

@@ -1,12 +1,14 @@
 -- The steps of the code's loops.
-use Rattle.std.proofs.Common.{◌≡◌, ◌∙◌, ◌⊎◌, ◌==◌, ◌+◌, ◌-◌, ◌*◌, ◌<◌, ◌≤◌, ◌++◌, ℕ, zero, suc, Bool, true, false, List, [], ◌∷◌, Option, codes, if◌then◌else◌, drop, get_or, length, nat_le, unwrap_or, refl, sym, ap, append_assoc, length-append, arith}
+use Rattle.std.proofs.Common.{◌≡◌, ◌∙◌, ◌⊎◌, ◌==◌, ◌+◌, ◌-◌, ◌*◌, ◌<◌, ◌≤◌, ◌++◌, ℕ, zero, suc, Bool, true, false, List, [], ◌∷◌, Option, codes, if◌then◌else◌, drop, get_or, length, nat_le, take, unwrap_or, refl, sym, ap, append_assoc, length-append, arith}
 use Rattle.std.specs.List.{flat_map}
 use Rattle.std.proofs.lemmas.Bool.{le-leb}
 use Rattle.std.proofs.lemmas.Bool.Decides.{nat_tests}
-use Rattle.std.proofs.lemmas.List.{drop_more}
+use Rattle.std.proofs.lemmas.List.{append-nil, drop_more, take_more, length-replicate}
+use Rattle.std.proofs.lemmas.List.Concat.{flat_map-append}
 use Rattle.edt_base.specs.NodeData.{NodeData}
+use Rattle.edt_base.specs.declared.node.Part.{Part}
 use Rattle.edt_base.specs.TreeData.{parent_of}
-use Rattle.dts_print.specs.Printed.{closing_text, joined, number_text, pair_text, pairs_text, list_text}
+use Rattle.dts_print.specs.Printed.{closing_text, number_text, pair_text, pairs_text, list_text, tabs, value_text}
 use Rattle.dts_print.specs.Inner.Steps.{closings, depth_of, head_text, kept_open, text_from}
 
 -- ---- the depth of a node
@@ -110,3 +112,50 @@ further_number_long numbers first rest is =
       length-append (number_text first) (flat_map (λ n. codes " " ++ number_text n) rest) in
       omega arith
     )
+
+pub no_further : (numbers : List ℕ) → numbers ≡ [] → length (flat_map (λ n. codes " " ++ number_text n) numbers) ≡ 0
+no_further numbers is = rw is refl
+
+pub none_of : (bytes : List ℕ) → length bytes ≡ 0 → bytes ≡ []
+none_of [] none = refl
+none_of (b ∷ bytes) none = absurd (omega arith)
+
+pub closings_long : (depth left : ℕ) → left < depth → length (closings depth left) ≡ (depth - 1) + 3 + length (closings (depth - 1) left)
+unfolding closing_text
+closings_long depth left more =
+    let all : length (closings depth left) ≡ length (closing_text (depth - 1) ++ closings (depth - 1) left) = ap length (closings_step depth left more) in
+    let both : length (closing_text (depth - 1) ++ closings (depth - 1) left) ≡ length (closing_text (depth - 1)) + length (closings (depth - 1) left) =
+    length-append (closing_text (depth - 1)) (closings (depth - 1) left) in
+    let one : length (tabs (depth - 1) ++ codes "};\n") ≡ length (tabs (depth - 1)) + 3 = length-append (tabs (depth - 1)) (codes "};\n") in
+    let wide : length (tabs (depth - 1)) ≡ depth - 1 = length-replicate (depth - 1) 9 in
+    omega arith
+
+pub closings_none : (depth left : ℕ) → depth ≤ left → length (closings depth left) ≡ 0
+closings_none depth left within = ap length (closings_end depth left within)
+
+pub node_long : (nodes : List NodeData) (place opened depth : ℕ) (node : NodeData) → place < length nodes → node ≡ get_or nodes place node
+    → depth ≡ depth_of nodes node.parent opened (place - 1)
+    → length (text_from nodes place opened (drop place nodes))
+    ≡ length (closings opened depth) + length (head_text depth node) + length (text_from nodes (place + 1) (depth + 1) (drop (place + 1) nodes))
+node_long nodes place opened depth node within is deep =
+    ap length (node_step nodes place opened depth node within is deep)
+    ∙ (length-append (closings opened depth ++ head_text depth node) (text_from nodes (place + 1) (depth + 1) (drop (place + 1) nodes))
+    ∙ ap (λ n. n + length (text_from nodes (place + 1) (depth + 1) (drop (place + 1) nodes))) (length-append (closings opened depth) (head_text depth node)))
+
+pub end_long : (nodes : List NodeData) (place opened : ℕ) → length nodes ≤ place → length (text_from nodes place opened (drop place nodes)) ≡ length (closings opened 0)
+end_long nodes place opened past = ap length (node_end nodes place opened past)
+
+-- the length of one text more
+pub flat_long : {X : Type 0} (f : X → List ℕ) (xs : List X) (i : ℕ) (d x : X) → i < length xs → x ≡ get_or xs i d
+    → length (flat_map f (take (i + 1) xs)) ≡ length (flat_map f (take i xs)) + length (f x)
+flat_long f xs i d x within is =
+    ap (λ ys. length (flat_map f ys)) (take_more xs i d within)
+    ∙ (ap length (flat_map-append f (take i xs) (get_or xs i d ∷ []))
+    ∙ (length-append (flat_map f (take i xs)) (flat_map f (get_or xs i d ∷ []))
+    ∙ ap (λ t. length (flat_map f (take i xs)) + length t) (append-nil (f (get_or xs i d)) ∙ ap f (sym is))))
+
+-- a value without parts
+pub value_none : (parts : List Part) → length parts ≡ 0 → value_text parts ≡ []
+unfolding value_text
+value_none [] none = refl
+value_none (part ∷ parts) none = absurd (omega arith)

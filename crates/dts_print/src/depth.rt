@@ -19,19 +19,20 @@ pub(crate) fn depth_of(
     ensures within { result ≤ opened }
 {
     match parent {
-        Some(parent) => kept_open(nodes, parent, opened, place.saturating_sub(1)),
+        Some(parent) => kept_open(nodes, parent.0 as usize, opened, place.saturating_sub(1)),
         None => 0,
     }
 }
 
 // Of so many open nodes, whose innermost is at a place, those that a child of the parent stands in.
-fn kept_open(nodes: &[NodeRec], parent: NodeId, opened: usize, innermost: usize) -> usize
+#[tactic(auto, using(crate::proofs::Steps::kept_step, crate::proofs::Steps::kept_none, crate::proofs::Steps::kept_here))]
+fn kept_open(nodes: &[NodeRec], parent: usize, opened: usize, innermost: usize) -> usize
     ensures kept { result ≡ kept_open nodes.now parent opened innermost }
     ensures within { result ≤ opened }
 {
     let mut left = opened;
     let mut at = innermost;
-    while left > 0 && at != parent.0 as usize {
+    while left > 0 && at != parent {
         at = parent_at(nodes, at);
         left -= 1;
     }

@@ -1,5 +1,6 @@
 -- The steps of `dts` lead to its answer.
-use Rattle.std.proofs.Common.{◌≡◌, ◌≤◌, ◌<◌, ◌++◌, ◌∙◌, ℕ, suc, Bool, true, false, List, [], ◌∷◌, Result, Ok, Err, length, drop, codes, nat_eq, nat_lt, if◌then◌else◌, refl, sym, ap, subst, inl, inr, arith, append-nil, append_assoc}
+use Rattle.std.proofs.Common.{◌≡◌, ◌+◌, ◌≤◌, ◌<◌, ◌++◌, ◌∙◌, ℕ, zero, suc, get_or, add-one, Bool, true, false, List, [], ◌∷◌, Result, Ok, Err, length, drop, codes, nat_eq, nat_lt, if◌then◌else◌, refl, sym, ap, subst, inl, inr, arith, append_assoc}
+use Rattle.std.proofs.lemmas.List.{append-nil, drop_more}
 use Rattle.edt_base.specs.TreeData.{TreeData}
 use Rattle.edt_base.specs.declared.fault.Fault.{Fault}
 use Rattle.edt_base.specs.declared.fault.End.{End}
@@ -81,3 +82,37 @@ stopped_at_limit names sources scripts tree h is more = inr (scripts, h, sym (ap
 -- what is found over the sources is the answer
 pub answer_of_tree : (names sources : List (List ℕ)) (tree : TreeData) → IsOver names sources (Ok tree) → IsTreeAnswer names sources (done (printed tree))
 answer_of_tree names sources tree h = inr (h.0, h.1, sym (ap over_tree h.2 ∙ fits tree h.3))
+
+-- ---- the same, as the code goes
+
+-- what stands from a place on begins with what stands there
+from_there : {X : Type 0} (xs : List X) (at : ℕ) (x : X) → at < length xs → x ≡ get_or xs at x → drop at xs ≡ x ∷ drop (suc at) xs
+from_there xs at x within is =
+    drop_more xs at x within ∙ (ap (λ y. y ∷ drop (at + 1) xs) (sym is) ∙ ap (λ n. x ∷ drop n xs) (add-one at))
+
+pub along_next : (names sources : List (List ℕ)) (at : ℕ) (scripts more : List (List StmtData)) (name source : List ℕ) (script : List StmtData)
+    → at < length names → at < length sources → name ≡ get_or names at name → source ≡ get_or sources at source
+    → IsScript source (nat_eq at 0) script → BreaksNone source (nat_eq at 0) → more ≡ scripts ++ script ∷ []
+    → IsAlong names sources at scripts → IsAlong names sources (at + 1) more
+along_next names sources at scripts more name source script named given name_is source_is is none added along =
+    subst (λ n. IsAlong names sources n more) (sym (add-one at))
+    (subst (λ s. IsAlong names sources (suc at) s) (sym added)
+    (along_more names sources at scripts name source script (from_there names at name named name_is) (from_there sources at source given source_is) is none along))
+
+pub along_stops : (names sources : List (List ℕ)) (at : ℕ) (scripts : List (List StmtData)) (name source : List ℕ) (end : End)
+    → at < length names → at < length sources → name ≡ get_or names at name → source ≡ get_or sources at source
+    → IsFirstFault {List StmtData} name source (nat_eq at 0) (Err end)
+    → IsAlong names sources at scripts → AreScriptsOr true names sources (Err end)
+along_stops names sources at scripts name source (ending.Fault f) named given name_is source_is first along =
+    along_fault names sources at scripts name source f (from_there names at name named name_is) (from_there sources at source given source_is)
+    (fault_of {List StmtData} (nat_eq at 0) name source f first) along
+along_stops names sources at scripts name source (ending.Memory e) named given name_is source_is first along = tt
+
+pub along_end : (names sources : List (List ℕ)) (at : ℕ) (scripts : List (List StmtData)) → length sources ≤ at → IsAlong names sources at scripts → AreScripts true sources scripts
+along_end names sources at scripts past along = along_all names sources at scripts (none sources at past) along
+  where
+    none : (xs : List (List ℕ)) (i : ℕ) → length xs ≤ i → drop i xs ≡ []
+    none [] zero h = refl
+    none [] (suc i) h = refl
+    none (x ∷ xs) zero h = absurd (omega arith)
+    none (x ∷ xs) (suc i) h = none xs i (omega arith)

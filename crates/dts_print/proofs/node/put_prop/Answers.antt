@@ -22,12 +22,12 @@ returns-in_err-put_value g c =
     not_done _ _ _ _ _ _ (failed c.from_residual-in_err-put_value.result c.from_residual-in_err-put_value.ensures.0)
     (put_then (g.S.Sink.seen c.args.out.now) (g.S.Sink.seen c.put_tabs.new.out) _ _ _ _ (tabs (c.args.depth + 1)) _ _ c.in_ok-put_tabs.ensures
     (put_then _ (g.S.Sink.seen c.put.new.out) _ _ _ _ (c.args.name.now) _ _ (put_as _ _ _ _ _ _ _ (c.as_bytes.ensures.value ∙ c.as_str.ensures) c.in_ok-put.ensures)
-    (put_stops _ (g.S.Sink.seen c.put_value.new.out) _ _ _ (value_text c.args.value.now) (codes ";\n") (put_as _ _ _ _ _ _ _ (ap value_text c.as_slice.ensures.value) c.in_err-put_value.ensures))))
+    (put_stops _ (g.S.Sink.seen c.put_value.new.out) _ _ _ (value_text c.args.value.now) (codes ";\n") (put_as _ _ _ _ _ _ _ (ap value_text (c.as_slice.ensures.value ∙ c.value.view_is)) c.in_err-put_value.ensures))))
 
 pub returns : goal.returns
 unfolding prop_text
 returns g c =
     put_then (g.S.Sink.seen c.args.out.now) (g.S.Sink.seen c.put_tabs.new.out) _ _ _ _ (tabs (c.args.depth + 1)) _ _ c.in_ok-put_tabs.ensures
     (put_then _ (g.S.Sink.seen c.put.new.out) _ _ _ _ (c.args.name.now) _ _ (put_as _ _ _ _ _ _ _ (c.as_bytes.ensures.value ∙ c.as_str.ensures) c.in_ok-put.ensures)
-    (put_then _ (g.S.Sink.seen c.put_value.new.out) _ _ _ _ (value_text c.args.value.now) _ _ (put_as _ _ _ _ _ _ _ (ap value_text c.as_slice.ensures.value) c.in_ok-put_value.ensures)
+    (put_then _ (g.S.Sink.seen c.put_value.new.out) _ _ _ _ (value_text c.args.value.now) _ _ (put_as _ _ _ _ _ _ _ (ap value_text (c.as_slice.ensures.value ∙ c.value.view_is)) c.in_ok-put_value.ensures)
     c.put-2.ensures))
