@@ -65,6 +65,7 @@ one_on nodes k i other = by_node (slice_get nodes k) refl
         apart : (q : ℕ) (b : Bool) → (q == i) ≡ b → (Some q ≡ Some i → ⊥) → (q == i) ≡ false
         apart q true t g = let same : q ≡ i = grind (arith, nat_tests) in absurd (g (ap (λ x. Some x) same))
         apart q false t g = t
+
     by_node : (o : Option NodeData) → slice_get nodes k ≡ o → children_from k (drop k nodes) i ≡ children_from (k + 1) (drop (k + 1) nodes) i
     by_node None e =
         let here : drop k nodes ≡ [] = past_all nodes k e in
@@ -173,6 +174,7 @@ closed t well b p place is over other early (suc k) above =
     by_node : (q : ℕ) (o : Option NodeData) → slice_get t.nodes ((place + k) + 1) ≡ o → option_and_then (λ (m : NodeData). m.parent) o ≡ Some q → IsAtOrAbove t.nodes q (place + k)
     by_node q None e h = cc
     by_node q (Some m) e h = well.preorder (place + k) q m e h
+
     next : (IsAtOrAbove t.nodes b (place + k) → ⊥) → (i : ℕ) → i ≡ (place + k) + 1 → IsAtOrAbove t.nodes b i → ⊥
     next earlier i at (itself j) = absurd (omega arith)
     next earlier i at (further j q r up_q over_q) =
@@ -193,6 +195,7 @@ none_below t well b p place is over other early (n ∷ ns) k depth at =
   where
     here : (slice_get t.nodes (place + k) ≡ Some n) × (ns ≡ drop ((place + k) + 1) t.nodes)
     here = at_place t.nodes (place + k) n ns at
+
     apart : (o : Option ℕ) → n.parent ≡ o → holds_number b o ≡ false
     apart None is_none = refl
     apart (Some q) is_some = by_test (q == b) refl
@@ -202,6 +205,7 @@ none_below t well b p place is over other early (n ∷ ns) k depth at =
             let up_b : parent_of t.nodes (place + k) ≡ Some b = parent_is t.nodes (place + k) n here.0 ∙ (is_some ∙ ap (λ x. Some x) same) in
             absurd (closed t well b p place is over other early k (further (place + k) b b up_b (itself b)))
         by_test false v = v
+
     test : holds_number b n.parent ≡ false
     test = apart n.parent refl
 
@@ -212,8 +216,7 @@ climb : (t : TreeData) → IsWellFormed t → (place p : ℕ) → parent_of t.no
     × (left t.nodes place ns (suc depth) at ≡ closings (suc depth) (suc e) ++ left t.nodes place ns (suc e) p)
 climb t well place p is ns from depth at early (itself i) has =
     let same : (i == i) ≡ true = grind (arith, nat_tests) in
-    let none : nat_le (suc depth) depth ≡ false = grind (arith, nat_tests) in
-    (
+    let none : nat_le (suc depth) depth ≡ false = grind (arith, nat_tests) in (
       depth,
       omega arith,
       ap (λ (b : Bool). if b then suc depth else kept_open t.nodes i depth (up t.nodes i)) same,
@@ -234,18 +237,17 @@ climb t well place p is ns from (suc depth) at early (further i q r up_is_q over
     let zero_on : place + 0 ≡ place = omega arith in
     let none : below ns place i (suc (suc depth)) ≡ [] =
     subst (λ j. below ns j i (suc (suc depth)) ≡ []) zero_on
-    (none_below t well i p place is (further i q p up_is_q over) (λ h. absurd (omega arith)) early ns 0 (suc (suc depth)) (subst (λ j. ns ≡ drop j t.nodes) (sym zero_on) from)) in
-    (
+    (none_below t well i p place is (further i q p up_is_q over) (λ h. absurd (omega arith)) early ns 0 (suc (suc depth)) (subst (λ j. ns ≡ drop j t.nodes) (sym zero_on) from)) in (
       e,
       omega arith,
       ap (λ (b : Bool). if b then suc (suc depth) else kept_open t.nodes p (suc depth) (up t.nodes i)) apart
-      ∙ (ap (kept_open t.nodes p (suc depth)) (up_is t.nodes i q up_is_q) ∙ more.2),
+          ∙ (ap (kept_open t.nodes p (suc depth)) (up_is t.nodes i q up_is_q) ∙ more.2),
       more.3,
       ap (λ text. text ++ (closing_text (suc depth) ++ left t.nodes place ns (suc depth) (up t.nodes i))) none
-      ∙ (ap (λ j. closing_text (suc depth) ++ left t.nodes place ns (suc depth) j) (up_is t.nodes i q up_is_q)
-      ∙ (ap (λ text. closing_text (suc depth) ++ text) more.4
-      ∙ (sym (append_assoc (closing_text (suc depth)) (closings (suc depth) (suc e)) (left t.nodes place ns (suc e) p))
-      ∙ sym (ap (λ (b : Bool). (if b then closing_text (suc depth) ++ closings (suc depth) (suc e) else []) ++ left t.nodes place ns (suc e) p) goes)))),
+          ∙ (ap (λ j. closing_text (suc depth) ++ left t.nodes place ns (suc depth) j) (up_is t.nodes i q up_is_q)
+          ∙ (ap (λ text. closing_text (suc depth) ++ text) more.4
+          ∙ (sym (append_assoc (closing_text (suc depth)) (closings (suc depth) (suc e)) (left t.nodes place ns (suc e) p))
+          ∙ sym (ap (λ (b : Bool). (if b then closing_text (suc depth) ++ closings (suc depth) (suc e) else []) ++ left t.nodes place ns (suc e) p) goes)))),
     )
 
 -- a node that isn't the parent has the same below it past a child of the parent
@@ -281,17 +283,21 @@ descend t well place p n ns is up_place e has =
   where
     inner : List ℕ
     inner = below ns (place + 1) place (suc (suc e))
+
     test : holds_number p n.parent ≡ true
     test = let same : (p == p) ≡ true = grind (arith, nat_tests) in ap (holds_number p) is ∙ same
+
     here : below (n ∷ ns) place p (suc e) ≡ around (suc e) n (below ns (place + 1) place (suc (suc e))) ++ below ns (place + 1) p (suc e)
     here = ap (λ (v : Bool). if v then around (suc e) n (below ns (place + 1) place (suc e + 1)) ++ below ns (place + 1) p (suc e) else below ns (place + 1) p (suc e)) test
         ∙ ap (λ d. around (suc e) n (below ns (place + 1) place d) ++ below ns (place + 1) p (suc e)) (add-one (suc e))
+
     above : (d : ℕ) → HasDepth t.nodes d p → left t.nodes place (n ∷ ns) d (up t.nodes p) ≡ left t.nodes (place + 1) ns d (up t.nodes p)
     above zero h = refl
     above (suc d) h =
         let l : h.0 < p = before t p h.0 well h.1 in
         subst (λ j. left t.nodes place (n ∷ ns) (suc d) j ≡ left t.nodes (place + 1) ns (suc d) j) (sym (up_is t.nodes p h.0 h.1))
         (others t well place p n ns is d h.0 h.2 l)
+
     regroup : (a b c d x y : List ℕ) → ((a ++ (b ++ (c ++ d))) ++ x) ++ y ≡ (a ++ b) ++ (c ++ (d ++ (x ++ y)))
     regroup a b c d x y = simp append_assoc
 
@@ -311,6 +317,7 @@ walk t well (n ∷ ns) at depth from has = by_parent n.parent refl (λ e next. w
   where
     here : (slice_get t.nodes (at + 1) ≡ Some n) × (ns ≡ drop ((at + 1) + 1) t.nodes)
     here = at_place t.nodes (at + 1) n ns from
+
     by_parent : (o : Option ℕ) → n.parent ≡ o
         → ((e : ℕ) → HasDepth t.nodes (suc e) (at + 1) → text_from t.nodes ((at + 1) + 1) (suc (suc e)) ns ≡ left t.nodes ((at + 1) + 1) ns (suc (suc e)) (at + 1))
         → text_from t.nodes (at + 1) (suc depth) (n ∷ ns) ≡ left t.nodes (at + 1) (n ∷ ns) (suc depth) at

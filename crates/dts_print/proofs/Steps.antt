@@ -1,5 +1,5 @@
 -- The steps of the code's loops.
-use Rattle.std.proofs.Common.{◌≡◌, ◌∙◌, ◌⊎◌, ◌==◌, ◌+◌, ◌-◌, ◌*◌, ◌<◌, ◌≤◌, ◌++◌, ℕ, zero, suc, Bool, true, false, List, [], ◌∷◌, Option, codes, if◌then◌else◌, drop, get_or, length, nat_le, take, unwrap_or, refl, sym, ap, append_assoc, length-append, arith}
+use Rattle.std.proofs.Common.{◌≡◌, ◌∙◌, ◌==◌, ◌+◌, ◌-◌, ◌*◌, ◌<◌, ◌≤◌, ◌++◌, ℕ, zero, suc, Bool, true, false, List, [], ◌∷◌, codes, if◌then◌else◌, drop, get_or, length, nat_le, take, unwrap_or, refl, sym, ap, append_assoc, length-append, arith}
 use Rattle.std.specs.List.{flat_map}
 use Rattle.std.proofs.lemmas.Bool.{le-leb}
 use Rattle.std.proofs.lemmas.Bool.Decides.{nat_tests}
@@ -77,10 +77,10 @@ pub pairs_long : (bytes : List ℕ) (first : ℕ) (rest : List ℕ) → bytes �
 unfolding pairs_text
 pairs_long bytes first rest is =
     rw is (
-      let more : length (flat_map (λ b. codes " " ++ pair_text b) rest ++ codes "]") ≡ length (flat_map (λ b. codes " " ++ pair_text b) rest) + 1 =
-      length-append (flat_map (λ b. codes " " ++ pair_text b) rest) (codes "]") in
-      let long : length (flat_map (λ b. codes " " ++ pair_text b) rest) ≡ length rest * 3 = further_long rest in
-      omega arith
+    let more : length (flat_map (λ b. codes " " ++ pair_text b) rest ++ codes "]") ≡ length (flat_map (λ b. codes " " ++ pair_text b) rest) + 1 =
+    length-append (flat_map (λ b. codes " " ++ pair_text b) rest) (codes "]") in
+    let long : length (flat_map (λ b. codes " " ++ pair_text b) rest) ≡ length rest * 3 = further_long rest in
+    omega arith
     )
 
 pub none_long : (bytes : List ℕ) → bytes ≡ [] → length (pairs_text bytes) ≡ 2
@@ -92,12 +92,12 @@ pub list_long : (numbers : List ℕ) (first : ℕ) (rest : List ℕ) → numbers
 unfolding list_text
 list_long numbers first rest is =
     rw is (
-      let further : List ℕ = flat_map (λ n. codes " " ++ number_text n) rest in
-      let all : length ((number_text first ++ further) ++ codes ">") ≡ length (number_text first ++ further) + 1 =
-      length-append (number_text first ++ further) (codes ">") in
-      let both : length (number_text first ++ further) ≡ length (number_text first) + length further =
-      length-append (number_text first) further in
-      omega arith
+    let further : List ℕ = flat_map (λ n. codes " " ++ number_text n) rest in
+    let all : length ((number_text first ++ further) ++ codes ">") ≡ length (number_text first ++ further) + 1 =
+    length-append (number_text first ++ further) (codes ">") in
+    let both : length (number_text first ++ further) ≡ length (number_text first) + length further =
+    length-append (number_text first) further in
+    omega arith
     )
 
 pub empty_long : (numbers : List ℕ) → numbers ≡ [] → length (list_text numbers) ≡ 2
@@ -108,9 +108,9 @@ pub further_number_long : (numbers : List ℕ) (first : ℕ) (rest : List ℕ) �
     → length (flat_map (λ n. codes " " ++ number_text n) numbers) ≡ length (number_text first) + 1 + length (flat_map (λ n. codes " " ++ number_text n) rest)
 further_number_long numbers first rest is =
     rw is (
-      let both : length (number_text first ++ flat_map (λ n. codes " " ++ number_text n) rest) ≡ length (number_text first) + length (flat_map (λ n. codes " " ++ number_text n) rest) =
-      length-append (number_text first) (flat_map (λ n. codes " " ++ number_text n) rest) in
-      omega arith
+    let both : length (number_text first ++ flat_map (λ n. codes " " ++ number_text n) rest) ≡ length (number_text first) + length (flat_map (λ n. codes " " ++ number_text n) rest) =
+    length-append (number_text first) (flat_map (λ n. codes " " ++ number_text n) rest) in
+    omega arith
     )
 
 pub no_further : (numbers : List ℕ) → numbers ≡ [] → length (flat_map (λ n. codes " " ++ number_text n) numbers) ≡ 0

@@ -13,8 +13,8 @@ use crate::text::before_last;
 use edt_base::{Kind, NodeRec, Part, PropVal, Text, Tree};
 use indexmap::IndexMap;
 
-/// The length of the source that prints a tree in bytes, at most the greatest 64-bit number: that of
-/// what `print` writes. Takes no memory.
+/// The length of the source that prints a tree in bytes, at most the greatest 64-bit number: that
+/// of what `print` writes. Linear in the tree, and takes no memory.
 pub fn print_len(tree: &Tree) -> u64
     ensures { result ≡ min (length (printed tree.now)) (2 ^ 64 - 1) }
 {

@@ -1,4 +1,5 @@
-//! The source that prints a tree (Devicetree Specification v0.4, chapter 6), written without memory.
+//! The source that prints a tree (Devicetree Specification v0.4, chapter 6), written without
+//! memory.
 #![tactic(auto)]
 
 mod depth;

@@ -30,11 +30,7 @@ pub(crate) fn put_closings<S: Sink>(
 }
 
 // Puts the line that closes a node at a depth.
-fn put_closing<S: Sink>(
-    out: &mut S,
-    block: &mut Block,
-    depth: usize,
-) -> Result<(), WriteFailed>
+fn put_closing<S: Sink>(out: &mut S, block: &mut Block, depth: usize) -> Result<(), WriteFailed>
     ensures { Put (S.seen out.old) (S.seen out.new) block.old block.new (closing_text depth)
         (is_ok result) }
 {
@@ -91,11 +87,7 @@ fn put_opening<S: Sink>(
 }
 
 // Puts labels, as they stand before a name.
-fn put_labels<S: Sink>(
-    out: &mut S,
-    block: &mut Block,
-    labels: &[Text],
-) -> Result<(), WriteFailed>
+fn put_labels<S: Sink>(out: &mut S, block: &mut Block, labels: &[Text]) -> Result<(), WriteFailed>
     ensures { Put (S.seen out.old) (S.seen out.new) block.old block.new
         (flat_map label_text labels.now) (is_ok result) }
 {
@@ -161,11 +153,7 @@ fn put_further_parts<S: Sink>(
 }
 
 // Puts a part with a comma before it.
-fn put_further_part<S: Sink>(
-    out: &mut S,
-    block: &mut Block,
-    part: &Part,
-) -> Result<(), WriteFailed>
+fn put_further_part<S: Sink>(out: &mut S, block: &mut Block, part: &Part) -> Result<(), WriteFailed>
     ensures { Put (S.seen out.old) (S.seen out.new) block.old block.new
         (codes ", " ++ part_text part.now) (is_ok result) }
 {

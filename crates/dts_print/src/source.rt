@@ -10,9 +10,9 @@ use crate::depth::depth_of;
 use crate::node::{put_closings, put_head};
 use edt_base::{Block, NodeRec, Sink, Tree, WriteFailed, flush, put};
 
-/// Writes the source that prints a tree, as `printed` in `specs/Printed.antt` has it. With
-/// `WriteFailed`, which comes only where the sink's count of faults rose, a prefix of it was written.
-/// Takes no memory.
+/// Writes the source that prints a tree, as `printed` in `specs/Printed.antt` has it: each node's
+/// labels, properties and children in order. With `WriteFailed`, which comes only where the sink's
+/// count of faults rose, a prefix of it was written. Takes no memory.
 pub fn print<S: Sink>(tree: &Tree, out: &mut S) -> Result<(), WriteFailed>
     ensures { Wrote (S.seen out.old) (S.seen out.new) (printed tree.now) (is_ok result) }
 {
@@ -24,11 +24,7 @@ pub fn print<S: Sink>(tree: &Tree, out: &mut S) -> Result<(), WriteFailed>
 }
 
 // Puts nodes in preorder, each with the lines that close those before it.
-fn put_nodes<S: Sink>(
-    out: &mut S,
-    block: &mut Block,
-    nodes: &[NodeRec],
-) -> Result<(), WriteFailed>
+fn put_nodes<S: Sink>(out: &mut S, block: &mut Block, nodes: &[NodeRec]) -> Result<(), WriteFailed>
     ensures { Put (S.seen out.old) (S.seen out.new) block.old block.new
         (text_from nodes.now 0 0 nodes.now) (is_ok result) }
 {

@@ -87,11 +87,7 @@ fn digit(n: u8) -> u8
 }
 
 /// Puts a byte as two hexadecimal digits.
-pub(crate) fn put_pair<S: Sink>(
-    out: &mut S,
-    block: &mut Block,
-    byte: u8,
-) -> Result<(), WriteFailed>
+pub(crate) fn put_pair<S: Sink>(out: &mut S, block: &mut Block, byte: u8) -> Result<(), WriteFailed>
     ensures { Put (S.seen out.old) (S.seen out.new) block.old block.new (pair_text byte)
         (is_ok result) }
 {
@@ -99,11 +95,7 @@ pub(crate) fn put_pair<S: Sink>(
 }
 
 /// Puts a number in hexadecimal.
-pub(crate) fn put_number<S: Sink>(
-    out: &mut S,
-    block: &mut Block,
-    n: u32,
-) -> Result<(), WriteFailed>
+pub(crate) fn put_number<S: Sink>(out: &mut S, block: &mut Block, n: u32) -> Result<(), WriteFailed>
     ensures { Put (S.seen out.old) (S.seen out.new) block.old block.new (number_text n)
         (is_ok result) }
 {

@@ -12,6 +12,6 @@ returns-in_default c =
 pub returns : goal.returns
 returns c =
     let long : length (list_text (numbers_of c.args.width c.args.bytes.now))
-        ≡ length (number_text c.in-Some.first) + length (flat_map (λ n. codes " " ++ number_text n) (numbers_of c.args.width c.in-Some.rest.now)) + 2 =
+    ≡ length (number_text c.in-Some.first) + length (flat_map (λ n. codes " " ++ number_text n) (numbers_of c.args.width c.in-Some.rest.now)) + 2 =
     list_long (numbers_of c.args.width c.args.bytes.now) c.in-Some.first (numbers_of c.args.width c.in-Some.rest.now) c.in-Some.ensures in
     omega arith

@@ -1,5 +1,4 @@
 use Rattle.std.proofs.Common.{◌-◌}
-use Rattle.dts_print.specs.Printed.{closing_text}
 use Rattle.dts_print.specs.Inner.Steps.{closings}
 use Rattle.edt_base.proofs.Puts.{not_done, failed}
 use Rattle.dts_print.proofs.Runs.{part_more, part_fails, all_put}

@@ -1,4 +1,4 @@
-use Rattle.std.proofs.Common.{codes, ◌++◌, ◌∙◌}
+use Rattle.std.proofs.Common.{codes, ◌∙◌}
 use Rattle.edt_base.proofs.Puts.{put_as, put_then, put_stops, not_done, failed}
 use Rattle.dts_print.proofs.node.put_label.Goals as goal
 

@@ -1,4 +1,4 @@
-use Rattle.std.proofs.Common.{codes, ◌++◌}
+use Rattle.std.proofs.Common.{codes}
 use Rattle.dts_print.specs.Printed.{pair_text}
 use Rattle.edt_base.proofs.Puts.{put_then, put_stops, not_done, failed}
 use Rattle.dts_print.proofs.part.put_further_pair.Goals as goal

@@ -1,4 +1,4 @@
-use Rattle.std.proofs.Common.{codes, ◌++◌}
+use Rattle.std.proofs.Common.{codes}
 use Rattle.dts_print.specs.Printed.{list_text}
 use Rattle.dts_print.specs.Inner.Numbers.{numbers_of}
 use Rattle.dts_print.specs.declared.part.Width.TheVariants.{Half}

@@ -1,4 +1,4 @@
-use Rattle.std.proofs.Common.{codes, false, ◌++◌}
+use Rattle.std.proofs.Common.{codes, false}
 use Rattle.std.specs.Fmt.{digits}
 use Rattle.dts_print.specs.Printed.{number_text}
 use Rattle.edt_base.proofs.Puts.{put_then, put_stops, not_done, failed}
