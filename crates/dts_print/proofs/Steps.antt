@@ -31,6 +31,9 @@ kept_here nodes parent (suc left) at here =
     let same : (at == parent) ≡ true = grind (arith, nat_tests) in
     ap (λ (b : Bool). if b then suc left else kept_open nodes parent left (unwrap_or (parent_of nodes at) 0)) same
 
+-- how many nodes stay open, step by step
+pub ruleset kept_open_steps = (kept_step, kept_none, kept_here)
+
 -- ---- the lines that close nodes
 
 pub closings_step : (depth left : ℕ) → left < depth → closings depth left ≡ closing_text (depth - 1) ++ closings (depth - 1) left

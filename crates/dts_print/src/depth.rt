@@ -25,7 +25,7 @@ pub(crate) fn depth_of(
 }
 
 // Of so many open nodes, whose innermost is at a place, those that a child of the parent stands in.
-#[tactic(auto, using(crate::proofs::Steps::kept_step, crate::proofs::Steps::kept_none, crate::proofs::Steps::kept_here))]
+#[tactic(auto, using(crate::proofs::Steps::kept_open_steps))]
 fn kept_open(nodes: &[NodeRec], parent: usize, opened: usize, innermost: usize) -> usize
     ensures kept { result ≡ kept_open nodes.now parent opened innermost }
     ensures within { result ≤ opened }
