@@ -2,39 +2,39 @@
 use Rattle.std.proofs.Common.{◌≡◌, ◌∙◌, ◌<◌, ◌⊎◌, ℕ, Bool, true, false, List, [], ◌∷◌, refl, sym, ap, subst, inl, inr, arith}
 use Rattle.edt_base.specs.declared.fault.Fault.{Fault}
 use Rattle.edt_base.specs.declared.fault.Place.TheVariants as place
-use Rattle.dts_parse.specs.Source.{BreaksNone, HasOneScript, IsFirst, IsScript, rule_of}
+use Rattle.dts_parse.specs.Source.{BreaksNone, HasOneScript, IsScript, rule_of}
 use Rattle.dts_parse.specs.StmtData.{StmtData}
-use Rattle.dts_parse.specs.declared.mode.Breach.{Breach}
-use Rattle.dts_parse.specs.declared.mode.Breach.TheVariants.{S1}
 use Rattle.dts_tree.specs.Outcome.{outcome}
 use Rattle.edt_run.specs.Answer.{Answer, refused}
 use Rattle.edt_run.specs.TreeAnswer.{AreScripts, IsFaultOf, IsFirstOf, IsTreeAnswer, over_tree}
 
 -- ---- a source has one first fault
 
-one_breach : (r s : Breach) → (s ≡ r) ⊎ (s ≡ S1) → (r ≡ s) ⊎ (r ≡ S1) → r ≡ s
-one_breach r s (inl e) f = sym e
-one_breach r s (inr e) (inl f) = f
-one_breach r s (inr e) (inr f) = f ∙ sym e
+-- (`last` is the rule that is told last where several are broken at one byte)
+one_breach : {B : Type 0} (last r s : B) → (s ≡ r) ⊎ (s ≡ last) → (r ≡ s) ⊎ (r ≡ last) → r ≡ s
+one_breach last r s (inl e) f = sym e
+one_breach last r s (inr e) (inl f) = f
+one_breach last r s (inr e) (inr f) = f ∙ sym e
 
-record IsSame (r s : Breach) (at place : ℕ) : Type 0 where
+record IsSame {B : Type 0} (r s : B) (at place : ℕ) : Type 0 where
   breach : r ≡ s
   place : at ≡ place
 
-same_first : (r s : Breach) (at place : ℕ) → (at < place) ⊎ ((at ≡ place) × ((s ≡ r) ⊎ (s ≡ S1))) → (place < at) ⊎ ((place ≡ at) × ((r ≡ s) ⊎ (r ≡ S1))) → IsSame r s at place
-same_first r s at place (inl h) (inl k) = absurd (omega (arith, h, k))
-same_first r s at place (inl h) (inr k) = absurd (omega (arith, h, k.0))
-same_first r s at place (inr h) (inl k) = absurd (omega (arith, h.0, k))
-same_first r s at place (inr h) (inr k) = record { breach = one_breach r s h.1 k.1; place = h.0 }
+same_first : {B : Type 0} (last r s : B) (at place : ℕ) → (at < place) ⊎ ((at ≡ place) × ((s ≡ r) ⊎ (s ≡ last))) → (place < at) ⊎ ((place ≡ at) × ((r ≡ s) ⊎ (r ≡ last)))
+    → IsSame r s at place
+same_first last r s at place (inl h) (inl k) = absurd (omega (arith, h, k))
+same_first last r s at place (inl h) (inr k) = absurd (omega (arith, h, k.0))
+same_first last r s at place (inr h) (inl k) = absurd (omega (arith, h.0, k))
+same_first last r s at place (inr h) (inr k) = record { breach = one_breach last r s h.1 k.1; place = h.0 }
 
 one_fault : (base : Bool) (name source : List ℕ) (f g : Fault) → IsFaultOf base name source f → IsFaultOf base name source g → f ≡ g
 one_fault base name source f g h k =
-    let same = same_first h.0 k.0 h.1 k.1 (h.2.least k.0 k.1 k.2.broken) (k.2.least h.0 h.1 h.2.broken) in
-    h.3 ∙ (ap (λ b. record { rule = rule_of b; place = place.Byte name h.1 }) same.breach
-    ∙ (ap (λ n. record { rule = rule_of k.0; place = place.Byte name n }) same.place ∙ sym k.3))
+    let same = same_first _ h.0 k.0 h.1.0 k.1.0 (h.1.1.1.least k.0 k.1.0 k.1.1.1.broken) (k.1.1.1.least h.0 h.1.0 h.1.1.1.broken) in
+    h.1.1.0 ∙ (ap (λ b. record { rule = rule_of b; place = place.Byte name h.1.0 }) same.breach
+    ∙ (ap (λ n. record { rule = rule_of k.0; place = place.Byte name n }) same.place ∙ sym k.1.1.0))
 
 no_fault : (base : Bool) (name source : List ℕ) (f : Fault) → IsFaultOf base name source f → BreaksNone source base → ⊥
-no_fault base name source f h none = none h.0 h.1 h.2.broken
+no_fault base name source f h none = none h.0 h.1.0 h.1.1.1.broken
 
 one_first : (base : Bool) (names sources : List (List ℕ)) (f g : Fault) → IsFirstOf base names sources f → IsFirstOf base names sources g → f ≡ g
 one_first base (name ∷ names) (source ∷ sources) f g (inl h) (inl k) = one_fault base name source f g h k

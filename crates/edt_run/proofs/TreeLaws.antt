@@ -45,10 +45,6 @@ along_fault names sources at scripts name source f name_is source_is is along =
     along.bad f (subst (λ l. IsFirstOf (nat_eq at 0) l (drop at sources) f) (sym name_is)
     (subst (λ l. IsFirstOf (nat_eq at 0) (name ∷ drop (suc at) names) l f) (sym source_is) (inl is)))
 
--- what `parse` says of a fault
-pub fault_of : {T : Type 0} (base : Bool) (name source : List ℕ) (f : Fault) → IsFirstFault {T} name source base (Err (ending.Fault f)) → IsFaultOf base name source f
-fault_of base name source f h = (h.0, h.1.0, h.1.1.1, h.1.1.0)
-
 pub along_all : (names sources : List (List ℕ)) (at : ℕ) (scripts : List (List StmtData)) → drop at sources ≡ [] → IsAlong names sources at scripts → AreScripts true sources scripts
 along_all names sources at scripts none along =
     subst (λ l. AreScripts true sources l) (append-nil scripts)
@@ -101,11 +97,11 @@ along_next names sources at scripts more name source script named given name_is 
 
 pub along_stops : (names sources : List (List ℕ)) (at : ℕ) (scripts : List (List StmtData)) (name source : List ℕ) (end : End)
     → at < length names → at < length sources → name ≡ get_or names at name → source ≡ get_or sources at source
-    → IsFirstFault {List StmtData} name source (nat_eq at 0) (Err end)
+    → IsFirstFault {T = List StmtData} name source (nat_eq at 0) (Err end)
     → IsAlong names sources at scripts → AreScriptsOr true names sources (Err end)
 along_stops names sources at scripts name source (ending.Fault f) named given name_is source_is first along =
     along_fault names sources at scripts name source f (from_there names at name named name_is) (from_there sources at source given source_is)
-    (fault_of {List StmtData} (nat_eq at 0) name source f first) along
+    first along
 along_stops names sources at scripts name source (ending.Memory e) named given name_is source_is first along = tt
 
 pub along_end : (names sources : List (List ℕ)) (at : ℕ) (scripts : List (List StmtData)) → length sources ≤ at → IsAlong names sources at scripts → AreScripts true sources scripts

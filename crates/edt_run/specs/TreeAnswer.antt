@@ -1,12 +1,12 @@
 -- What `dts SRC..` answers over the bytes of its sources: the tree that they leave, as a source.
 use Rattle.std.specs.Prelude.{◌≡◌, ◌⊎◌, ℕ, Bool, true, false, List, [], ◌∷◌, Result, Ok, Err, codes, length, nat_lt, if◌then◌else◌}
 use Rattle.edt_base.specs.TreeData.{TreeData}
+use Rattle.edt_base.specs.declared.fault.End.TheVariants as ending
 use Rattle.edt_base.specs.declared.fault.Fault.{Fault}
 use Rattle.edt_base.specs.declared.fault.Rule.TheVariants as rule
 use Rattle.edt_base.specs.declared.fault.Place.TheVariants as place
-use Rattle.dts_parse.specs.Source.{BreaksNone, IsFirst, IsScript, rule_of}
+use Rattle.dts_parse.specs.Source.{BreaksNone, IsFirstFault, IsScript}
 use Rattle.dts_parse.specs.StmtData.{StmtData}
-use Rattle.dts_parse.specs.declared.mode.Breach.{Breach}
 use Rattle.dts_tree.specs.Outcome.{outcome}
 use Rattle.dts_print.specs.Printed.{printed}
 use Rattle.edt_run.specs.Answer.{Answer, done, refused}
@@ -22,8 +22,7 @@ AreScripts base _ _ = ⊥
 
 -- the fault is the first of this source
 abbrev pub IsFaultOf : Bool → List ℕ → List ℕ → Fault → Type 0
-IsFaultOf base name source fault = (breach : Breach) × (at : ℕ) × (IsFirst source base breach at)
-    × (fault ≡ record { rule = rule_of breach; place = place.Byte name at })
+IsFaultOf base name source fault = IsFirstFault {T = List StmtData} name source base (Err (ending.Fault fault))
 
 -- the fault is the first of the first source that breaks a rule
 abbrev pub IsFirstOf : Bool → List (List ℕ) → List (List ℕ) → Fault → Type 0
