@@ -16,9 +16,9 @@ one_breach last r s (inl e) f = sym e
 one_breach last r s (inr e) (inl f) = f
 one_breach last r s (inr e) (inr f) = f ∙ sym e
 
-record IsSame {B : Type 0} (r s : B) (at place : ℕ) : Type 0 where
+record IsSame {B : Type 0} (r s : B) (at other : ℕ) : Type 0 where
   breach : r ≡ s
-  place : at ≡ place
+  place : at ≡ other
 
 same_first : {B : Type 0} (last r s : B) (at place : ℕ) → (at < place) ⊎ ((at ≡ place) × ((s ≡ r) ⊎ (s ≡ last))) → (place < at) ⊎ ((place ≡ at) × ((r ≡ s) ⊎ (r ≡ last)))
     → IsSame r s at place

@@ -9,11 +9,10 @@ use Rattle.dts_print.specs.Printed.{printed}
 use Rattle.edt_run.specs.Answer.{Answer, refused}
 use Rattle.edt_run.specs.TreeAnswer.{AreScripts, IsFirstOf, IsTreeAnswer, print_limit}
 
--- the statements of all sources, or the first fault of the first that breaks a rule
-abbrev pub AreScriptsOr : Bool → List (List ℕ) → List (List ℕ) → Result (List (List StmtData)) End → Type 0
-AreScriptsOr base names sources (Ok scripts) = AreScripts base sources scripts
-AreScriptsOr base names sources (Err (ending.Fault f)) = IsFirstOf base names sources f
-AreScriptsOr base names sources (Err (ending.Memory e)) = Unit {0}
+-- why reading the statements stopped: the first fault of the first source that breaks a rule, or want of memory
+abbrev pub IsScriptStop : List (List ℕ) → List (List ℕ) → End → Type 0
+IsScriptStop names sources (ending.Fault f) = IsFirstOf true names sources f
+IsScriptStop names sources (ending.Memory e) = Unit {0}
 
 -- the tree that the sources leave, which can be printed, or a fault that is the answer
 abbrev pub IsOver : List (List ℕ) → List (List ℕ) → Result TreeData End → Type 0

@@ -1,7 +1,8 @@
 //! What `dts` does over its sources: reads their statements, and takes the tree that they leave.
 
 ghost use Rattle.std.specs.Prelude.{◌≡◌, IfOk, IfErr, length, true};
-ghost use Rattle.edt_run.specs.TreeSteps.{AreScriptsOr, IsOver};
+ghost use Rattle.edt_run.specs.TreeAnswer.{AreScripts};
+ghost use Rattle.edt_run.specs.TreeSteps.{IsOver, IsScriptStop};
 
 use dts_parse::{Script, parse};
 use dts_print::print_len;
@@ -32,7 +33,8 @@ pub(crate) fn tree_of(alloc: Global, names: &Vec<Text>, sources: &[Bytes]) -> Re
 /// The statements of sources, of which the first alone is a base; else the first fault.
 fn scripts_of(alloc: Global, names: &[Text], sources: &[Bytes]) -> Result<Vec<Script>, End>
     requires { length sources.now ≡ length names.now }
-    ensures { AreScriptsOr true names.now sources.now result }
+    ensures read { IfOk result (λ v. AreScripts true sources.now v.items) }
+    ensures stopped { IfErr result (λ end. IsScriptStop names.now sources.now end) }
 {
     let mut scripts = Vec::new(alloc);
     for (i, source) in sources.iter().enumerate() {
