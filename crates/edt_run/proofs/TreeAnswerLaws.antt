@@ -1,8 +1,8 @@
 -- `dts` has one answer.
-use Rattle.std.proofs.Common.{◌≡◌, ◌∙◌, ◌<◌, ◌⊎◌, ℕ, Bool, true, false, List, [], ◌∷◌, refl, sym, ap, subst, inl, inr, arith}
+use Rattle.std.proofs.Common.{◌≡◌, ◌∙◌, ◌<◌, ◌⊎◌, ℕ, Bool, true, false, List, [], ◌∷◌, refl, sym, ap, inl, inr, arith}
 use Rattle.edt_base.specs.declared.fault.Fault.{Fault}
 use Rattle.edt_base.specs.declared.fault.Place.TheVariants as place
-use Rattle.dts_parse.specs.Source.{BreaksNone, HasOneScript, IsScript, rule_of}
+use Rattle.dts_parse.specs.Source.{BreaksNone, HasOneScript, rule_of}
 use Rattle.dts_parse.specs.StmtData.{StmtData}
 use Rattle.dts_tree.specs.Outcome.{outcome}
 use Rattle.edt_run.specs.Answer.{Answer, refused}

@@ -1,5 +1,5 @@
 -- The steps of `dts` lead to its answer.
-use Rattle.std.proofs.Common.{◌≡◌, ◌+◌, ◌-◌, ◌^◌, min, ◌≤◌, ◌<◌, ◌++◌, ◌∙◌, ℕ, zero, suc, get_or, add-one, Bool, true, false, List, [], ◌∷◌, Result, Ok, Err, length, drop, codes, nat_eq, nat_lt, if◌then◌else◌, refl, sym, ap, subst, inl, inr, arith, append_assoc}
+use Rattle.std.proofs.Common.{◌≡◌, ◌+◌, ◌-◌, ◌^◌, min, ◌≤◌, ◌<◌, ◌++◌, ◌∙◌, ℕ, zero, suc, get_or, add-one, Bool, true, false, List, [], ◌∷◌, Result, Ok, Err, length, drop, codes, nat_eq, refl, sym, ap, subst, inl, inr, arith, append_assoc}
 use Rattle.std.proofs.lemmas.Bool.Decides.{nat_tests}
 use Rattle.std.proofs.lemmas.List.{append-nil, drop_more}
 use Rattle.std.specs.Result.{IfErr, IsErrAnd}
@@ -14,7 +14,7 @@ use Rattle.dts_parse.specs.StmtData.{StmtData}
 use Rattle.dts_tree.specs.Outcome.{outcome}
 use Rattle.dts_tree.specs.References.{Answers}
 use Rattle.dts_print.specs.Printed.{printed}
-use Rattle.edt_run.specs.Answer.{Answer, done, refused}
+use Rattle.edt_run.specs.Answer.{done, refused}
 use Rattle.edt_run.specs.TreeAnswer.{AreScripts, IsFaultOf, IsFirstOf, IsTreeAnswer, over_tree, print_limit}
 use Rattle.edt_run.specs.TreeSteps.{IsOver, IsScriptStop}
 

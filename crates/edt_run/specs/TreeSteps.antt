@@ -1,12 +1,12 @@
 -- What the code of `dts` answers, step by step.
-use Rattle.std.specs.Prelude.{◌≡◌, ◌≤◌, ℕ, Bool, true, List, Result, Ok, Err, length}
+use Rattle.std.specs.Prelude.{◌≡◌, ◌≤◌, ℕ, true, List, Result, Ok, Err, length}
 use Rattle.edt_base.specs.TreeData.{TreeData}
 use Rattle.edt_base.specs.declared.fault.End.{End}
 use Rattle.edt_base.specs.declared.fault.End.TheVariants as ending
 use Rattle.dts_parse.specs.StmtData.{StmtData}
 use Rattle.dts_tree.specs.Outcome.{outcome}
 use Rattle.dts_print.specs.Printed.{printed}
-use Rattle.edt_run.specs.Answer.{Answer, refused}
+use Rattle.edt_run.specs.Answer.{refused}
 use Rattle.edt_run.specs.TreeAnswer.{AreScripts, IsFirstOf, IsTreeAnswer, print_limit}
 
 -- why reading the statements stopped: the first fault of the first source that breaks a rule, or want of memory
