@@ -1,5 +1,5 @@
 -- Each job has one answer, which tells of the words and the files, and a refusal writes nothing.
-use Rattle.std.proofs.Common.{◌≡◌, ◌∙◌, if◌then◌else◌, ℕ, Bool, true, false, List, [], ◌∷◌, Option, Some, None, MatchOption, IsTrue, refl, sym, ap, subst, inl, inr}
+use Rattle.std.proofs.Common.{◌≡◌, ◌∙◌, if◌then◌else◌, Result, Ok, Err, codes, length, nat_lt, ℕ, Bool, true, false, List, [], ◌∷◌, Option, Some, None, MatchOption, IsTrue, refl, sym, ap, subst, inl, inr}
 use Rattle.edt_base.specs.declared.fault.Fault.{Fault}
 use Rattle.edt_base.specs.declared.fault.Rule.TheVariants as rule
 use Rattle.edt_base.specs.declared.fault.Place.TheVariants as place
@@ -13,6 +13,12 @@ use Rattle.edt_run.specs.Header.{header}
 use Rattle.edt_run.specs.Job.{JobData}
 use Rattle.edt_run.specs.Promises.{IsAnswer, IsAnswerOf, IsAnswerFrom, is_plain}
 use Rattle.edt_run.specs.SmallAnswer.{IsSmallAnswer}
+use Rattle.edt_run.specs.TreeAnswer.{IsTreeAnswer, over_tree, print_limit}
+use Rattle.edt_base.specs.TreeData.{TreeData}
+use Rattle.dts_tree.specs.Outcome.{outcome}
+use Rattle.dts_print.specs.Printed.{printed}
+use Rattle.edt_run.proofs.TreeAnswerLaws.{one_tree_answer}
+use Rattle.dts_parse.proofs.Whole.{one_script}
 use Rattle.edt_run.proofs.SmallLaws.{one_tree}
 
 -- ---- one answer
@@ -27,6 +33,7 @@ one_of : (c : Cmd) (names sources : List (List ℕ)) (a b : Answer) → IsAnswer
 one_of cmd.Gen (name ∷ names) (source ∷ sources) a b h k = small_one name source a b h k
 one_of cmd.Gen [] sources a b h k = absurd h
 one_of cmd.Gen (name ∷ names) [] a b h k = absurd h
+one_of cmd.Dts names sources a b h k = one_tree_answer one_script names sources a b h k
 
 one_to : (o : Option (List ℕ)) (c : Cmd) (names sources : List (List ℕ)) (a b : Answer)
     → MatchOption o (IsAnswerOf c names sources a) (λ name. a ≡ refused (too_long name))
@@ -71,10 +78,23 @@ small_proper : (name source : List ℕ) (a : Answer) → IsSmallAnswer name sour
 small_proper name source a (inl h) = subst IsProper (sym h.2) (proper_done (header h.0))
 small_proper name source a (inr h) = subst IsProper (sym h.1) (proper_refused (record { rule = rule.S6; place = place.Byte name 0 }))
 
+over_proper : (result : Result TreeData Fault) → IsProper (over_tree result)
+over_proper (Ok tree) = printed_or (nat_lt print_limit (length (printed tree)))
+  where
+    printed_or : (b : Bool) → IsProper (if b then refused (record { rule = rule.L10; place = place.Node (codes "/") }) else done (printed tree))
+    printed_or true = proper_refused (record { rule = rule.L10; place = place.Node (codes "/") })
+    printed_or false = proper_done (printed tree)
+over_proper (Err fault) = proper_refused fault
+
+tree_proper : (names sources : List (List ℕ)) (a : Answer) → IsTreeAnswer names sources a → IsProper a
+tree_proper names sources a (inl h) = subst IsProper (sym h.2) (proper_refused h.0)
+tree_proper names sources a (inr h) = subst IsProper (sym h.2) (over_proper (outcome names h.0))
+
 of_proper : (c : Cmd) (names sources : List (List ℕ)) (a : Answer) → IsAnswerOf c names sources a → IsProper a
 of_proper cmd.Gen (name ∷ names) (source ∷ sources) a h = small_proper name source a h
 of_proper cmd.Gen [] sources a h = absurd h
 of_proper cmd.Gen (name ∷ names) [] a h = absurd h
+of_proper cmd.Dts names sources a h = tree_proper names sources a h
 
 to_proper : (o : Option (List ℕ)) (c : Cmd) (names sources : List (List ℕ)) (a : Answer)
     → MatchOption o (IsAnswerOf c names sources a) (λ name. a ≡ refused (too_long name)) → IsProper a

@@ -8,9 +8,9 @@ use Rattle.std.proofs.lemmas.Bool.{false≢true}
 use Rattle.edt_run.specs.declared.node.Node.{Node, out-Node}
 use Rattle.edt_run.specs.Header.{lines_below, node_lines, path_below, id_below, siblings}
 use Rattle.edt_run.specs.Nodes.{forest_of}
-use Rattle.edt_run.specs.Put.{Put}
+use Rattle.edt_base.specs.Put.{Put}
 use Rattle.edt_run.proofs.Forests.{forest_step}
-use Rattle.edt_run.proofs.Puts.{put_then, put_stops, flush_puts, put_writes}
+use Rattle.edt_base.proofs.Puts.{put_then, put_stops, flush_puts, put_writes}
 
 -- one piece more was put
 pub one_more : {X : Type 0} (f : X → List ℕ) (xs : List X) (i : ℕ) (x : X) (a b c : SinkSeen) (first second third : List ℕ)

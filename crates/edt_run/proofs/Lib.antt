@@ -4,8 +4,9 @@ pub mod Forests
 pub mod Headers
 pub mod NestingLaws
 pub mod PromiseLaws
-pub mod Puts
 pub mod RunLaws
 pub mod SmallLaws
 pub mod SourceLaws
 pub mod TokenLaws
+pub mod TreeAnswerLaws
+pub mod TreeLaws

@@ -1,5 +1,5 @@
 -- What a run decided and what became of writing it make the run.
-use Rattle.std.proofs.Common.{◌≡◌, ◌∙◌, ℕ, List, [], Option, Some, None, Result, Ok, Err, IfOk, IsTrue, MatchOption, refl, sym, subst, true}
+use Rattle.std.proofs.Common.{◌≡◌, ◌∙◌, ℕ, List, [], Option, Some, None, Result, Ok, Err, IfOk, IsTrue, MatchOption, refl, sym, subst, true, false}
 use Rattle.edt_base.specs.declared.outside.Call.TheVariants as call
 use Rattle.edt_base.specs.Outside.{FilesSeen, Wrote, held_of}
 use Rattle.edt_base.proofs.WriteLaws.{wrote_nothing}
@@ -7,7 +7,7 @@ use Rattle.edt_run.specs.declared.sources.Stop.{Stop}
 use Rattle.edt_run.specs.declared.sources.Stop.TheVariants as stop
 use Rattle.edt_run.specs.declared.top.Status.{Status}
 use Rattle.edt_run.specs.declared.top.Status.TheVariants as status
-use Rattle.edt_run.specs.Answer.{Answer, refusal, refused, usage_line, memory_line, too_long}
+use Rattle.edt_run.specs.Answer.{Answer, refusal, refused, usage_line, memory_line, write_line, too_long}
 use Rattle.edt_run.specs.Job.{JobData, job_of}
 use Rattle.edt_run.specs.Promises.{Run, IsAnswerOf, IsAnswerFrom, KeepsFiles, is_plain}
 use Rattle.edt_run.specs.Steps.{Ran, IsSaid, IsWanted, IsWantedAs, AreRead, IsReadStop, IsRefusedBy}
@@ -68,6 +68,22 @@ ran_refusal r said line cause idle kept same noted = record {
   idle = idle;
   cause = cause;
   output = kept_out r same;
+  note = noted.note;
+  status = noted.status;
+}
+
+-- writing failed, and the note got the line of that
+pub ran_write_failed : (r : Run) (wanted : Answer) → IsWanted r.files_old r.files_new (job_of r.words) wanted
+    → (job_of r.words ≡ None → r.files_new ≡ r.files_old) → KeepsFiles r.files_old r.files_new → Wrote r.out_old r.out_new wanted.text false
+    → IsSaid r.note_old r.note_new write_line status.Write r.status → Ran r
+ran_write_failed r wanted cause idle kept output noted = record {
+  wanted = wanted;
+  written = false;
+  noted = noted.noted;
+  files = kept;
+  idle = idle;
+  cause = cause;
+  output = output;
   note = noted.note;
   status = noted.status;
 }

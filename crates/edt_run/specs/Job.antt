@@ -15,6 +15,7 @@ pub record JobData : Type 0 where
 unfoldable pub cmd_of : List ℕ → Option Cmd
 cmd_of word =
     if bytes_eq word (codes "gen") then Some cmd.Gen
+    else if bytes_eq word (codes "dts") then Some cmd.Dts
     else None
 
 pub record RowData : Type 0 where
@@ -24,6 +25,7 @@ pub record RowData : Type 0 where
 -- (`gen` takes one source of nested nodes until bindings are read)
 abbrev pub row_of : Cmd → RowData
 row_of cmd.Gen = record { least = 1; most = 1 }
+row_of cmd.Dts = record { least = 1; most = 32 }
 
 -- ---- the names
 

@@ -5,7 +5,6 @@ pub mod Job
 pub mod Nodes
 pub mod Piece
 pub mod Promises
-pub mod Put
 pub mod Reader
 pub mod Reading
 pub mod Small
@@ -13,3 +12,5 @@ pub mod SmallAnswer
 pub mod Steps
 pub mod Tokens
 pub mod Trail
+pub mod TreeAnswer
+pub mod TreeSteps

@@ -10,13 +10,15 @@ use Rattle.edt_run.specs.declared.top.Status.TheVariants as status
 use Rattle.edt_run.specs.Answer.{Answer, Given, IsGiven, refusal, refused, usage_line, write_line, memory_line, read_line, source_limit, first_above, too_long}
 use Rattle.edt_run.specs.Job.{JobData, job_of}
 use Rattle.edt_run.specs.SmallAnswer.{IsSmallAnswer}
+use Rattle.edt_run.specs.TreeAnswer.{IsTreeAnswer}
 
 -- ---- the answer to a job
 
 -- by command: what it answers over its sources, where these are within the limit
 abbrev pub IsAnswerOf : Cmd → List (List ℕ) → List (List ℕ) → Answer → Type 0
 IsAnswerOf cmd.Gen (name ∷ names) (source ∷ sources) answer = IsSmallAnswer name source answer
-IsAnswerOf _ names sources answer = ⊥
+IsAnswerOf cmd.Gen _ _ answer = ⊥
+IsAnswerOf cmd.Dts names sources answer = IsTreeAnswer names sources answer
 
 -- the limit on sources is met before every rule
 abbrev pub IsAnswerTo : JobData → Given → Answer → Type 0
@@ -41,6 +43,7 @@ writes_early (Some job) = of_command job.cmd
   where
     of_command : Cmd → Bool
     of_command cmd.Gen = false
+    of_command cmd.Dts = false
 
 -- ---- a run
 

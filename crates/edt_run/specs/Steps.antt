@@ -9,6 +9,7 @@ use Rattle.edt_run.specs.declared.decision.Decision.TheVariants as decision
 use Rattle.edt_run.specs.declared.sources.Stop.{Stop}
 use Rattle.edt_run.specs.declared.sources.Stop.TheVariants as stop
 use Rattle.edt_run.specs.Answer.{Answer, done, refusal, refused, memory_line, read_line, write_line, source_limit, first_above, too_long}
+use Rattle.dts_print.specs.Printed.{printed}
 use Rattle.edt_run.specs.Header.{header}
 use Rattle.edt_run.specs.Job.{JobData, job_of}
 use Rattle.edt_run.specs.Nodes.{forest_of}
@@ -46,7 +47,8 @@ pub record IsSaid (old new : SinkSeen) (line : List ℕ) (said result : Status) 
 
 -- the answer that a decision leads to
 abbrev pub wanted_of : Decision → Answer
-wanted_of (decision.Header writer nodes) = done (header (forest_of nodes.items))
+wanted_of (decision.Header nodes) = done (header (forest_of nodes.items))
+wanted_of (decision.Source tree) = done (printed tree)
 wanted_of (decision.Refusal said line) = refusal said (string_bytes line)
 
 -- ---- the sources

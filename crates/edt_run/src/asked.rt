@@ -10,6 +10,8 @@ use std::marker::Model;
 pub enum Cmd {
     /// Write the header of a source.
     Gen,
+    /// Write the tree that the sources leave, as a source.
+    Dts,
 }
 
 /// What the words of a command line ask for. There is at least one name.

@@ -6,22 +6,25 @@ ghost use Rattle.edt_base.specs.Outside.{held_of};
 ghost use Rattle.edt_run.specs.Answer.{refused};
 ghost use Rattle.edt_run.specs.Promises.{IsAnswerOf};
 ghost use Rattle.edt_run.specs.SmallAnswer.{IsSmallAnswer};
+ghost use Rattle.edt_run.specs.TreeAnswer.{IsTreeAnswer};
 ghost use Rattle.edt_run.specs.Steps.{IsRefusedBy, IsWanted, wanted_of};
 
 use crate::asked::{Cmd, Job};
-use crate::header::{HeaderWriter, prepare};
 use crate::node::Node;
 use crate::reader::read_small;
 use crate::sources::{Stop, read_sources};
 use crate::top::Status;
-use edt_base::{Bytes, Fault, Files, Place, Rule, Text};
+use crate::tree_job::tree_of;
+use edt_base::{Bytes, End, Fault, Files, Place, Rule, Text, Tree};
 use std::alloc::{AllocError, Global};
 
 /// What a run wants to do.
 #[derive(Drop)]
 pub(crate) enum Decision {
     /// Write the header of these nodes.
-    Header(HeaderWriter, Vec<Node>),
+    Header(Vec<Node>),
+    /// Write this tree as a source.
+    Source(Tree),
     /// Write nothing but this line to the note, and end so.
     Refusal(Status, String),
 }
@@ -70,6 +73,7 @@ fn over_sources(alloc: Global, job: &Job, sources: &[Bytes]) -> Result<Decision,
 {
     match job.cmd {
         Cmd::Gen => small_header(alloc, &job.names[0], &sources[0]),
+        Cmd::Dts => left_tree(alloc, &job.names, sources),
     }
 }
 
@@ -78,10 +82,7 @@ fn small_header(alloc: Global, name: &Text, source: &Bytes) -> Result<Decision, 
     ensures { IfOk result (λ d. IsSmallAnswer name.now source.now (wanted_of d)) }
 {
     match read_small(alloc, source.as_slice())? {
-        Some(nodes) => {
-            let writer = prepare(alloc)?;
-            Ok(Decision::Header(writer, nodes))
-        }
+        Some(nodes) => Ok(Decision::Header(nodes)),
         None => {
             let place = Place::Byte(name.copy(alloc)?, 0);
             refuse(
@@ -92,6 +93,18 @@ fn small_header(alloc: Global, name: &Text, source: &Bytes) -> Result<Decision, 
                 },
             )
         }
+    }
+}
+
+/// The tree that sources leave, or their first fault.
+fn left_tree(alloc: Global, names: &Vec<Text>, sources: &[Bytes]) -> Result<Decision, AllocError>
+    requires { length sources.now ≡ length names.now.items }
+    ensures { IfOk result (λ d. IsTreeAnswer names.now.items sources.now (wanted_of d)) }
+{
+    match tree_of(alloc, names, sources) {
+        Ok(tree) => Ok(Decision::Source(tree)),
+        Err(End::Fault(fault)) => refuse(alloc, fault),
+        Err(End::Memory(e)) => Err(e),
     }
 }
 

@@ -4,7 +4,6 @@
 mod apart;
 mod asked;
 mod decision;
-mod gather;
 mod header;
 mod laws;
 mod node;
@@ -14,6 +13,7 @@ mod sources;
 mod token;
 mod top;
 mod trail;
+mod tree_job;
 mod words;
 
 pub use asked::{Cmd, Job};

@@ -2,12 +2,11 @@
 
 ghost use Rattle.std.specs.Prelude.{is_ok};
 ghost use Rattle.std.specs.List.{flat_map};
-ghost use Rattle.edt_run.specs.Put.{Put};
+ghost use Rattle.edt_base.specs.Put.{Put};
 ghost use Rattle.edt_run.specs.Piece.{text_of};
 
-use crate::gather::{Gather, put};
 use crate::trail::{Trail, put_id, put_path};
-use edt_base::{Sink, WriteFailed};
+use edt_base::{Block, Sink, WriteFailed, put};
 use itoa::Buffer;
 
 /// A part of a line.
@@ -22,27 +21,27 @@ pub(crate) enum Piece<'a> {
     Number(usize),
 }
 
-fn put_piece<S: Sink>(out: &mut S, gather: &mut Gather, piece: &Piece) -> Result<(), WriteFailed>
-    ensures { Put (S.seen out.old) (S.seen out.new) gather.old gather.new (text_of piece.now) (is_ok result) }
+fn put_piece<S: Sink>(out: &mut S, block: &mut Block, piece: &Piece) -> Result<(), WriteFailed>
+    ensures { Put (S.seen out.old) (S.seen out.new) block.old block.new (text_of piece.now) (is_ok result) }
 {
     match piece {
-        Piece::Text(text) => put(out, gather, text.as_bytes()),
-        Piece::Path(trail) => put_path(out, gather, trail),
-        Piece::Id(trail) => put_id(out, gather, trail),
-        Piece::Number(n) => put(out, gather, Buffer::new().format(*n).as_bytes()),
+        Piece::Text(text) => put(out, block, text.as_bytes()),
+        Piece::Path(trail) => put_path(out, block, trail),
+        Piece::Id(trail) => put_id(out, block, trail),
+        Piece::Number(n) => put(out, block, Buffer::new().format(*n).as_bytes()),
     }
 }
 
 /// Puts pieces one behind the other.
 pub(crate) fn put_all<S: Sink>(
     out: &mut S,
-    gather: &mut Gather,
+    block: &mut Block,
     pieces: &[Piece],
 ) -> Result<(), WriteFailed>
-    ensures { Put (S.seen out.old) (S.seen out.new) gather.old gather.new (flat_map text_of pieces.now) (is_ok result) }
+    ensures { Put (S.seen out.old) (S.seen out.new) block.old block.new (flat_map text_of pieces.now) (is_ok result) }
 {
     for piece in pieces {
-        put_piece(out, gather, piece)?;
+        put_piece(out, block, piece)?;
     }
     Ok(())
 }

@@ -6,6 +6,7 @@ ghost use Rattle.edt_run.specs.Steps.{Ran, IsSaid};
 use crate::decision::{Decision, decide};
 use crate::header::emit;
 use crate::words::job;
+use dts_print::print;
 use edt_base::{Files, Sink, Words, write_text};
 use std::alloc::Global;
 
@@ -64,7 +65,11 @@ fn carry_out<F: Files, O: Sink, E: Sink>(
         Ok(Some(job)) => match decide(alloc, &job, files) {
             Err(_) => say(note, Status::Memory, "edt: memory\n"),
             Ok(Decision::Refusal(status, line)) => say(note, status, line.as_str()),
-            Ok(Decision::Header(writer, nodes)) => match emit(writer, nodes.as_slice(), out) {
+            Ok(Decision::Source(tree)) => match print(&tree, out) {
+                Ok(()) => say(note, Status::Done, ""),
+                Err(_) => say(note, Status::Write, "edt: write\n"),
+            },
+            Ok(Decision::Header(nodes)) => match emit(nodes.as_slice(), out) {
                 Ok(()) => say(note, Status::Done, ""),
                 Err(_) => say(note, Status::Write, "edt: write\n"),
             },
@@ -73,9 +78,10 @@ fn carry_out<F: Files, O: Sink, E: Sink>(
 }
 
 /// Does all that the program does: for the words `gen NAME` it reads the source of that name and
-/// writes the header of its nodes to `out`; `-` names standard input. `words` are the arguments
-/// after the program's name, `note` is where a refusal is told, in one line, and the status is how
-/// it ended.
+/// writes the header of its nodes to `out`, and for `dts SRC..` it reads these sources, the base and
+/// its overlays, and writes the tree that they leave as one source; `-` names standard input, at
+/// most once. `words` are the arguments after the program's name, `note` is where a refusal is told,
+/// in one line, and the status is how it ended.
 ///
 /// The one clause is the promise of the whole program: when each status comes and why, what the
 /// output then gained, and what the note says (`KeepsPromises`, each sentence a field of its own).

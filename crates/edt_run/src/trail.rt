@@ -1,11 +1,10 @@
 //! The way from the root to a node.
 
 ghost use Rattle.std.specs.Prelude.{is_ok};
-ghost use Rattle.edt_run.specs.Put.{Put};
+ghost use Rattle.edt_base.specs.Put.{Put};
 ghost use Rattle.edt_run.specs.Trail.{path_of, id_of};
 
-use crate::gather::{Gather, put};
-use edt_base::{Sink, WriteFailed};
+use edt_base::{Block, Sink, WriteFailed, put};
 
 /// The way from the root to a node: the names on it, which stay where they are. So the path and the
 /// id of the node at hand take no memory.
@@ -19,17 +18,17 @@ pub(crate) enum Trail<'a> {
 /// Puts the path, which is nothing for the root.
 pub(crate) fn put_path<S: Sink>(
     out: &mut S,
-    gather: &mut Gather,
+    block: &mut Block,
     trail: &Trail,
 ) -> Result<(), WriteFailed>
-    ensures { Put (S.seen out.old) (S.seen out.new) gather.old gather.new (path_of trail.now) (is_ok result) }
+    ensures { Put (S.seen out.old) (S.seen out.new) block.old block.new (path_of trail.now) (is_ok result) }
 {
     match trail {
         Trail::Root => {}
         Trail::Below(up, name) => {
-            put_path(out, gather, up)?;
-            put(out, gather, b"/")?;
-            put(out, gather, name.as_bytes())?;
+            put_path(out, block, up)?;
+            put(out, block, b"/")?;
+            put(out, block, name.as_bytes())?;
         }
     }
     Ok(())
@@ -38,17 +37,17 @@ pub(crate) fn put_path<S: Sink>(
 /// Puts the id.
 pub(crate) fn put_id<S: Sink>(
     out: &mut S,
-    gather: &mut Gather,
+    block: &mut Block,
     trail: &Trail,
 ) -> Result<(), WriteFailed>
-    ensures { Put (S.seen out.old) (S.seen out.new) gather.old gather.new (id_of trail.now) (is_ok result) }
+    ensures { Put (S.seen out.old) (S.seen out.new) block.old block.new (id_of trail.now) (is_ok result) }
 {
     match trail {
-        Trail::Root => put(out, gather, b"DT_N")?,
+        Trail::Root => put(out, block, b"DT_N")?,
         Trail::Below(up, name) => {
-            put_id(out, gather, up)?;
-            put(out, gather, b"_S_")?;
-            put(out, gather, name.as_bytes())?;
+            put_id(out, block, up)?;
+            put(out, block, b"_S_")?;
+            put(out, block, name.as_bytes())?;
         }
     }
     Ok(())

@@ -69,6 +69,7 @@ fn cmd_of(word: &str) -> Option<Cmd>
 {
     match word {
         "gen" => Some(Cmd::Gen),
+        "dts" => Some(Cmd::Dts),
         _ => None,
     }
 }
@@ -79,6 +80,7 @@ fn row_of(cmd: Cmd) -> Row
 {
     match cmd {
         Cmd::Gen => Row { least: 1, most: 1 },
+        Cmd::Dts => Row { least: 1, most: 32 },
     }
 }
 

@@ -2,11 +2,11 @@ use Rattle.std.proofs.Common.{◌≡◌, [], refl, length, rules}
 use Rattle.edt_run.specs.declared.node.Node.{out-Node}
 use Rattle.edt_run.specs.Trail.{path_of, id_of}
 use Rattle.edt_run.proofs.Headers.{next_node, node_more, node_fails, below_fails}
-use Rattle.edt_run.proofs.Puts.{nothing_put, not_done, failed}
+use Rattle.edt_base.proofs.Puts.{nothing_put, not_done, failed}
 use Rattle.edt_run.proofs.header.+put_below.Goals as goal
 
 pub loop-place-init : goal.loop-place-init
-loop-place-init g t c = ([], refl, nothing_put (g.S.Sink.seen c.args.out.now) c.args.gather.now)
+loop-place-init g t c = ([], refl, nothing_put (g.S.Sink.seen c.args.out.now) c.args.block.now)
 
 pub returns-in_err-put_node_lines : goal.returns-in_err-put_node_lines
 returns-in_err-put_node_lines g t c =

@@ -1,5 +1,5 @@
 use Rattle.edt_run.specs.Header.{node_lines}
-use Rattle.edt_run.proofs.Puts.{put_then, put_stops, not_done, failed}
+use Rattle.edt_base.proofs.Puts.{put_then, put_stops, not_done, failed}
 use Rattle.edt_run.proofs.header.put_node_lines.Goals as goal
 
 pub returns-in_err-put_name_lines : goal.returns-in_err-put_name_lines

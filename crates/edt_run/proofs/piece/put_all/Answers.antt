@@ -1,6 +1,6 @@
 use Rattle.edt_run.specs.Piece.{text_of}
 use Rattle.edt_run.proofs.Headers.{one_more, one_fails}
-use Rattle.edt_run.proofs.Puts.{not_done, failed}
+use Rattle.edt_base.proofs.Puts.{not_done, failed}
 use Rattle.edt_run.proofs.piece.put_all.Goals as goal
 
 pub returns-in_err-put_piece : goal.returns-in_err-put_piece

@@ -1,6 +1,9 @@
-use Rattle.std.proofs.Common.{◌≡◌, None, Some, refl, sym, arith, string_bytes}
+use Rattle.std.proofs.Common.{◌≡◌, None, Some, refl, subst, sym, arith, string_bytes}
+use Rattle.dts_print.specs.Printed.{printed}
+use Rattle.edt_run.specs.Answer.{done}
 use Rattle.edt_run.specs.Job.{job_of}
-use Rattle.edt_run.proofs.RunLaws.{ran_refusal, ran_usage, ran_memory, is_job}
+use Rattle.edt_run.specs.Steps.{IsWanted}
+use Rattle.edt_run.proofs.RunLaws.{ran_refusal, ran_usage, ran_memory, ran_write_failed, is_job}
 use Rattle.edt_run.proofs.top.carry_out.Goals as goal
 
 pub returns-in-Err : goal.returns-in-Err
@@ -22,3 +25,10 @@ returns-in-Ok-Refusal g c =
     ran_refusal _ c.in-Ok-Refusal.status (string_bytes c.in-Ok-Refusal.line)
     (rw named at (rw c.in-Ok-Refusal.field-0-is at c.in-Ok-Refusal.ensures.wanted))
     (is_job _ _ named) (c.decide.ensures.held, c.decide.ensures.count) refl (rw c.as_str.ensures.value at c.say-in-Ok-Refusal.ensures)
+
+pub returns-in-Ok-Source : goal.returns-in-Ok-Source
+returns-in-Ok-Source g c =
+    let named : Some c.in-Ok-Some.job ≡ job_of c.args.words.now = rw c.in-Ok-Some.field-0-is at c.in-Ok-Some.ensures in
+    ran_write_failed _ (done (printed c.in-Ok-Source.tree)) (subst (λ o. IsWanted (g.F.Files.seen c.args.files.now) (g.F.Files.seen c.decide.new.files) o (done (printed c.in-Ok-Source.tree))) named
+    (rw c.in-Ok-Source.field-0-is at c.in-Ok-Source.ensures.wanted))
+    (is_job _ _ named) (c.decide.ensures.held, c.decide.ensures.count) c.in-Err-print.ensures c.say-in-Err-print.ensures

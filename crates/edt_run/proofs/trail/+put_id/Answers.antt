@@ -1,6 +1,6 @@
 use Rattle.std.proofs.Common.{ap}
 use Rattle.edt_run.specs.Trail.{id_of}
-use Rattle.edt_run.proofs.Puts.{put_then, put_stops, not_done, failed}
+use Rattle.edt_base.proofs.Puts.{put_then, put_stops, not_done, failed}
 use Rattle.edt_run.proofs.trail.+put_id.Goals as goal
 
 pub returns-in_err-put_id-in-Below : goal.returns-in_err-put_id-in-Below
