@@ -4,9 +4,18 @@
 //! is what the layer is asked; `is` has the answer, or `starts` and `ends` its two ends.
 #![tactic(auto)]
 
+mod c_lines;
+mod expansions;
 mod objects;
+mod orders;
+mod records;
+mod registers;
+mod runs;
+mod scripts;
 mod source_tokens;
 mod table;
+mod three_nodes;
+mod yaml_values;
 
 use std::alloc::{AllocError, Global};
 use std::process::ExitCode;
@@ -18,9 +27,28 @@ use table::{Row, rows};
 enum Layer {
     EdtBase,
     DtsLex,
+    DtsParse,
+    YamlProfile,
+    BindLoad,
+    RegRanges,
+    DepOrder,
+    CTokens,
+    CMacro,
+    EdtRun,
 }
 
-const LAYERS: [Layer; 2] = [Layer::EdtBase, Layer::DtsLex];
+const LAYERS: [Layer; 10] = [
+    Layer::EdtBase,
+    Layer::DtsLex,
+    Layer::DtsParse,
+    Layer::YamlProfile,
+    Layer::BindLoad,
+    Layer::RegRanges,
+    Layer::DepOrder,
+    Layer::CTokens,
+    Layer::CMacro,
+    Layer::EdtRun,
+];
 
 impl Layer {
     /// The name of its table's file.
@@ -28,6 +56,14 @@ impl Layer {
         match self {
             Layer::EdtBase => "edt_base.rows",
             Layer::DtsLex => "dts_lex.rows",
+            Layer::DtsParse => "dts_parse.rows",
+            Layer::YamlProfile => "yaml_profile.rows",
+            Layer::BindLoad => "bind_load.rows",
+            Layer::RegRanges => "reg_ranges.rows",
+            Layer::DepOrder => "dep_order.rows",
+            Layer::CTokens => "c_tokens.rows",
+            Layer::CMacro => "c_macro.rows",
+            Layer::EdtRun => "edt_run.rows",
         }
     }
 
@@ -36,6 +72,14 @@ impl Layer {
         match self {
             Layer::EdtBase => objects::answer(alloc, row),
             Layer::DtsLex => source_tokens::answer(alloc, row),
+            Layer::DtsParse => scripts::answer(alloc, row),
+            Layer::YamlProfile => yaml_values::answer(alloc, row),
+            Layer::BindLoad => records::answer(alloc, row),
+            Layer::RegRanges => registers::answer(alloc, row),
+            Layer::DepOrder => orders::answer(alloc, row),
+            Layer::CTokens => c_lines::answer(alloc, row),
+            Layer::CMacro => expansions::answer(alloc, row),
+            Layer::EdtRun => runs::answer(alloc, row),
         }
     }
 }

@@ -1,0 +1,84 @@
+//! Rows of `edt_run`: `words` has the words of a command line, one a line, and `source` the source
+//! `b.dts`, the only file.
+//!
+//! `calls` has the numbers of the calls of the files that fail, `writes` those of the output's writes
+//! that fail; `room` is how many bytes the output has room for, `most` how many it takes at a write,
+//! and `note_room` how many the note has room for. The answer has the exit status, then the note, then
+//! the output. With `each_room` each smaller room is tried too, and the answer ends with the first one
+//! at which the run doesn't end with status 4 and as much of the output as there is room for.
+
+use crate::table::{Row, numbers_of, text_of};
+use edt_base::{Bytes, MemFiles, MemSink, Text, Words};
+use edt_run::{Status, run};
+use std::alloc::{AllocError, Global};
+
+/// What a run did: its status, and what each sink took.
+#[derive(Drop)]
+struct Outcome {
+    status: Status,
+    out: MemSink,
+    note: MemSink,
+}
+
+pub fn answer(alloc: Global, row: &Row) -> Result<Option<String>, AllocError> {
+    let Some(words) = row.text("words") else {
+        return Ok(None);
+    };
+    let outcome = run_over(alloc, row, words, row.number_or("room", 1 << 24))?;
+    let mut out = String::new(alloc);
+    write!(out, "{}\n", outcome.status as u8)?;
+    out.push_str(text_of(outcome.note.bytes()))?;
+    out.push_str(text_of(outcome.out.bytes()))?;
+    if row.text("each_room").is_some() {
+        push_bad_room(alloc, row, words, outcome.out.bytes(), &mut out)?;
+    }
+    Ok(Some(out))
+}
+
+fn run_over(alloc: Global, row: &Row, words: &str, room: u64) -> Result<Outcome, AllocError> {
+    let words = words_of(alloc, words)?;
+    let mut files = files_of(alloc, row)?;
+    let most = row.number_or("most", 1 << 24).max(1);
+    let mut out = MemSink::new(alloc, room, most, numbers_of(alloc, row, "writes")?)?;
+    let note_room = row.number_or("note_room", 1000);
+    let mut note = MemSink::new(alloc, note_room, note_room.max(1), Vec::new(alloc))?;
+    let status = run(alloc, &words, &mut files, &mut out, &mut note);
+    Ok(Outcome { status, out, note })
+}
+
+/// Adds the first room below an output's size at which it isn't cut right, if there is one.
+fn push_bad_room(
+    alloc: Global,
+    row: &Row,
+    words: &str,
+    whole: &[u8],
+    out: &mut String,
+) -> Result<(), AllocError> {
+    for (room, _) in whole.iter().enumerate() {
+        let outcome = run_over(alloc, row, words, room as u64)?;
+        let (cut, _) = whole.split_at(room);
+        if outcome.status != Status::Write || outcome.out.bytes() != cut {
+            return write!(out, "room {room}");
+        }
+    }
+    Ok(())
+}
+
+/// The words, one on each line.
+fn words_of(alloc: Global, lines: &str) -> Result<Words, AllocError> {
+    let mut words = Vec::new(alloc);
+    if !lines.is_empty() {
+        for word in lines.split('\n') {
+            words.push(Text::new(String::from_str(alloc, word)?))?;
+        }
+    }
+    Ok(Words::new(words))
+}
+
+/// The files, which hold one source.
+fn files_of(alloc: Global, row: &Row) -> Result<MemFiles, AllocError> {
+    let name = Text::new(String::from_str(alloc, "b.dts")?);
+    let source = Bytes::new(Vec::from_slice(alloc, row.bytes("source").unwrap_or(b""))?);
+    let held = vec![in alloc; (name, source)]?;
+    Ok(MemFiles::new(held, numbers_of(alloc, row, "calls")?))
+}
