@@ -9,7 +9,9 @@ set -eu
 top=$(cd "$(dirname "$0")/.." && pwd)
 work=$(mktemp -d)
 trap 'rm -rf "$work"' EXIT
-"$top/bin/edt" help >/dev/null
+# EDT may name a built program; bin/edt, which looks first whether the program is current, takes some hundredths of a
+# second more.
+edt=${EDT:-$top/bin/edt}
 
 # lines of a node each, from 0: what a board's nodes look like
 board() {
@@ -36,8 +38,7 @@ cells() {
 
 # seconds and kilobytes that a command takes on the source
 taken() {
-    local out
-    out=$( { /usr/bin/time -f '%e %M' "$@" >/dev/null 2>"$work/note"; } 2>&1) || true
+    /usr/bin/time -f '%e %M' timeout 120 "$@" 2>"$work/note" >/dev/null || true
     tail -n 1 "$work/note"
 }
 
@@ -48,7 +49,7 @@ measure() {
         "$shape" "$n" >"$work/source.dts"
         local bytes
         bytes=$(wc -c <"$work/source.dts")
-        printf '%-8s %7d %8d bytes  edt %s' "$shape" "$n" "$bytes" "$(taken "$top/bin/edt" dts "$work/source.dts")"
+        printf '%-8s %7d %8d bytes  edt %s' "$shape" "$n" "$bytes" "$(taken "$edt" dts "$work/source.dts")"
         if command -v dtc >/dev/null; then
             printf '  dtc %s' "$(taken dtc -q -I dts -O dts "$work/source.dts")"
         fi
