@@ -1,5 +1,5 @@
-//! Rows of `edt_run`: `words` has the words of a command line, one a line, and `source` the source
-//! `b.dts`, the only file.
+//! Rows of `edt_run`: `words` has the words of a command line, one a line, `source` the source `b.dts`
+//! and `overlay`, where it is there, the source `o.dts`; there is no other file.
 //!
 //! `calls` has the numbers of the calls of the files that fail, `writes` those of the output's writes
 //! that fail; `room` is how many bytes the output has room for, `most` how many it takes at a write,
@@ -75,10 +75,19 @@ fn words_of(alloc: Global, lines: &str) -> Result<Words, AllocError> {
     Ok(Words::new(words))
 }
 
-/// The files, which hold one source.
+/// The files, which hold the sources of the row.
 fn files_of(alloc: Global, row: &Row) -> Result<MemFiles, AllocError> {
-    let name = Text::new(String::from_str(alloc, "b.dts")?);
-    let source = Bytes::new(Vec::from_slice(alloc, row.bytes("source").unwrap_or(b""))?);
-    let held = vec![in alloc; (name, source)]?;
-    Ok(MemFiles::new(held, numbers_of(alloc, row, "calls")?))
+    let calls = numbers_of(alloc, row, "calls")?;
+    let base = file(alloc, "b.dts", row.bytes("source").unwrap_or(b""))?;
+    let held = match row.bytes("overlay") {
+        Some(overlay) => vec![in alloc; base, file(alloc, "o.dts", overlay)?]?,
+        None => vec![in alloc; base]?,
+    };
+    Ok(MemFiles::new(held, calls))
+}
+
+/// A file of this name with these bytes.
+fn file(alloc: Global, name: &str, bytes: &[u8]) -> Result<(Text, Bytes), AllocError> {
+    let name = Text::new(String::from_str(alloc, name)?);
+    Ok((name, Bytes::new(Vec::from_slice(alloc, bytes)?)))
 }
