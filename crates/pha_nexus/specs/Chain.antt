@@ -1,5 +1,5 @@
 -- The chain of rows along which a specifier is followed from nexus node to nexus node.
-use Rattle.std.specs.Prelude.{◌≡◌, ◌<◌, ◌++◌, ◌⊎◌, ℕ, zero, suc, true, List, [], ◌∷◌, Option, Some, None, Result, Ok, Err, All, length, ⊥}
+use Rattle.std.specs.Prelude.{◌≡◌, ◌<◌, ◌+◌, ◌++◌, ℕ, zero, suc, true, List, [], ◌∷◌, Option, Some, None, Result, Ok, Err, All, length}
 use Rattle.std.specs.Option.{option_map_or}
 use Rattle.edt_base.specs.NodeData.{NodeData}
 use Rattle.edt_base.specs.declared.fault.Rule.{Rule}

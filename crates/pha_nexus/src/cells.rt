@@ -1,6 +1,6 @@
 //! Runs of cells in a value that is read cell by cell.
 
-ghost use Rattle.std.specs.Prelude.{◌≡◌, ◌*◌, ◌≤◌, IfOk, IfErr, Ok, Err, true, drop, length, take, nat_le, nat_lt, if◌then◌else◌};
+ghost use Rattle.std.specs.Prelude.{◌≡◌, ◌*◌, ◌<◌, ◌≤◌, IfOk, IfErr, Ok, true, false, drop, length, take};
 ghost use Rattle.edt_base.specs.Cells.{cells_of};
 ghost use Rattle.edt_base.specs.Refusals.{IsStop};
 ghost use Rattle.pha_nexus.specs.Inner.Reading.{parent_cells};
@@ -28,13 +28,14 @@ pub(crate) fn begin_with(cells: &mut Cells<'_>, wanted: &[u32]) -> bool
 
 /// Passes over so many cells, and tells whether they are there.
 pub(crate) fn skip(cells: &mut Cells<'_>, count: usize) -> bool
-    ensures there { result ≡ nat_le count (length (cells_of cells.old)) }
-    ensures rest { result ≡ true → cells.new ≡ drop (4 * count) cells.old }
+    ensures there { result ≡ true → (cells.new ≡ drop (4 * count) cells.old)
+        × (count ≤ length (cells_of cells.old)) }
+    ensures short { result ≡ false → length (cells_of cells.old) < count }
 {
     for _ in 0..count {
-        if cells.next().is_none() {
+        let Some(_cell) = cells.next() else {
             return false;
-        }
+        };
     }
     true
 }

@@ -2,5 +2,9 @@
 #![tactic(auto)]
 
 mod cells;
+mod following;
+mod passing;
 mod rows;
 mod space;
+
+pub use following::follow;

@@ -82,11 +82,13 @@ fn read_row(
         Err(rule) => return Err(Stop::Broken(rule)),
     };
     if is_same {
-        let parent = parent_cells(alloc, cells, lead.width)?;
-        return Ok(Some(Exit {
-            node: lead.node,
-            parent,
-        }));
+        return match parent_cells(alloc, cells, lead.width) {
+            Ok(parent) => Ok(Some(Exit {
+                node: lead.node,
+                parent,
+            })),
+            Err(stop) => Err(stop),
+        };
     }
     if skip(cells, lead.width) {
         Ok(None)

@@ -1,0 +1,4 @@
+pub mod CellLaws
+pub mod FollowLaws
+pub mod PassLaws
+pub mod RowLaws
