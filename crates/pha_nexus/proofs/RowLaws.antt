@@ -98,10 +98,13 @@ whole_bad : (t : Bool) (xs : List ℕ) (row : Row) (b : Rule) → (if t then Err
 whole_bad true xs row b e = let same : rule.V26 ≡ b = cc in ap (λ (r : Rule). Err r) same
 whole_bad false xs row b e = cc
 
+abbrev row_with : List ℕ → ℕ → List ℕ → Row
+row_with child node parent = record { child = child; node = node; parent = parent }
+
 whole_good : (t : Bool) (xs ys child : List ℕ) (node : ℕ) → (if t then Err rule.V26 else Ok xs) ≡ Ok ys
-    → (if t then Err rule.V26 else Ok (record { child = child; node = node; parent = xs })) ≡ Ok (record { child = child; node = node; parent = ys })
+    → (if t then Err rule.V26 else Ok (row_with child node xs)) ≡ Ok (row_with child node ys)
 whole_good true xs ys child node e = cc
-whole_good false xs ys child node e = let same : xs ≡ ys = cc in ap (λ (zs : List ℕ). Ok (record { child = child; node = node; parent = zs })) same
+whole_good false xs ys child node e = let same : xs ≡ ys = cc in ap (λ (zs : List ℕ). Ok (row_with child node zs)) same
 
 pub no_parent : (nodes : List NodeData) (space child bs b1 b2 : List ℕ) (phandle : ℕ) (lead : Lead) (b : Rule) → 0 < length bs → b1 ≡ drop (4 * length child) bs
     → cells_of b1 ≡ phandle ∷ cells_of b2 → Ok lead ≡ lead_to nodes space (position (has_phandle phandle) nodes)
@@ -123,27 +126,22 @@ pub row_taken : (nodes : List NodeData) (space child bs b1 b2 parent : List ℕ)
     → Ok lead ≡ lead_to nodes space (position (has_phandle phandle) nodes) → parent_cells lead.width (cells_of b2) ≡ Ok parent
     → taken child (rows_left nodes space (length child) bs) ≡ Ok (record { child = child; node = lead.node; parent = parent })
 row_taken nodes space child bs b1 b2 parent phandle lead some e same h led whole =
-    let first : Row = record { child = take (length child) (cells_of bs); node = lead.node; parent = parent } in
-    let is : first_row nodes space (length child) (cells_of bs) ≡ Ok (record { child = take (length child) (cells_of bs); node = lead.node; parent = parent }) =
+    let is : first_row nodes space (length child) (cells_of bs) ≡ Ok (row_with (take (length child) (cells_of bs)) lead.node parent) =
         row_is nodes space child bs b1 b2 phandle e h ∙ (ap (whole_row (take (length child) (cells_of bs)) (cells_of b2)) (sym led)
         ∙ whole_good (nat_lt (length (cells_of b2)) lead.width) (take lead.width (cells_of b2)) parent (take (length child) (cells_of bs)) lead.node whole) in
-    taken_by nodes space child bs (record { child = take (length child) (cells_of bs); node = lead.node; parent = parent }) true some is (sym same)
-    ∙ ap (λ (xs : List ℕ). Ok (record { child = xs; node = lead.node; parent = parent })) (same_lists (take (length child) (cells_of bs)) child (sym same))
+    taken_by nodes space child bs (row_with (take (length child) (cells_of bs)) lead.node parent) true some is (sym same)
+    ∙ ap (λ (xs : List ℕ). Ok (row_with xs lead.node parent)) (same_lists (take (length child) (cells_of bs)) child (sym same))
 
 pub row_passed : (nodes : List NodeData) (space child bs b1 b2 b3 : List ℕ) (phandle : ℕ) (lead : Lead) → 0 < length bs → b1 ≡ drop (4 * length child) bs
     → false ≡ are_same (take (length child) (cells_of bs)) child → cells_of b1 ≡ phandle ∷ cells_of b2 → b2 ≡ drop 4 b1 → 4 ≤ length b1
     → Ok lead ≡ lead_to nodes space (position (has_phandle phandle) nodes) → b3 ≡ drop (4 * lead.width) b2 → lead.width ≤ length (cells_of b2)
     → (taken child (rows_left nodes space (length child) bs) ≡ taken child (rows_left nodes space (length child) b3)) × (length b3 < length bs)
 row_passed nodes space child bs b1 b2 b3 phandle lead some e other h g four led k3 le =
-    let n : ℕ = length child in
-    let w : ℕ = lead.width in
-    let row : Row = record { child = take (length child) (cells_of bs); node = lead.node; parent = take lead.width (cells_of b2) } in
     let fits : nat_lt (length (cells_of b2)) lead.width ≡ false = grind (arith, nat_tests) in
-    let is : first_row nodes space (length child) (cells_of bs) ≡ Ok (record { child = take (length child) (cells_of bs); node = lead.node; parent = take lead.width (cells_of b2) }) =
+    let is : first_row nodes space (length child) (cells_of bs) ≡ Ok (row_with (take (length child) (cells_of bs)) lead.node (take lead.width (cells_of b2))) =
         row_is nodes space child bs b1 b2 phandle e h ∙ (ap (whole_row (take (length child) (cells_of bs)) (cells_of b2)) (sym led)
-        ∙ ap (λ (b : Bool). if b then Err rule.V26 else Ok (record { child = take (length child) (cells_of bs); node = lead.node; parent = take lead.width (cells_of b2) })) fits) in
+        ∙ ap (λ (b : Bool). if b then Err rule.V26 else Ok (row_with (take (length child) (cells_of bs)) lead.node (take lead.width (cells_of b2)))) fits) in
     let len : length (take lead.width (cells_of b2)) ≡ lead.width = length-take-le lead.width (cells_of b2) le in
-    let k : ℕ = length child + 1 + length (take lead.width (cells_of b2)) in
     let l1 : length b1 ≡ length bs - 4 * length child = ap length e ∙ length-drop (4 * length child) bs in
     let l2 : length b2 ≡ length b1 - 4 = ap length g ∙ length-drop 4 b1 in
     let l3 : length b3 ≡ length b2 - 4 * lead.width = ap length k3 ∙ length-drop (4 * lead.width) b2 in
@@ -157,11 +155,11 @@ row_passed nodes space child bs b1 b2 b3 phandle lead some e other h g four led 
         cells_drop (length child + 1 + length (take lead.width (cells_of b2))) bs ∙ ap cells_of (sym at) in
     let rests : length bs % 4 ≡ length b3 % 4 =
         ap (λ (j : ℕ). j % 4) total ∙ add-mul-mod_self_left (length b3) 4 (length child + 1 + length (take lead.width (cells_of b2))) in
-    let same : after_first nodes space (length child) bs (record { child = take (length child) (cells_of bs); node = lead.node; parent = take lead.width (cells_of b2) })
+    let same : after_first nodes space (length child) bs (row_with (take (length child) (cells_of bs)) lead.node (take lead.width (cells_of b2)))
         ≡ rows_left nodes space (length child) b3 =
         ap (λ (j : ℕ). rows_after nodes space (length child) (nat_lt 0 j) 0 (drop (length child + 1 + length (take lead.width (cells_of b2))) (cells_of bs))) rests
         ∙ ap (λ (cs : List ℕ). rows_after nodes space (length child) (has_rest (length b3)) 0 cs) cells in (
-      taken_by nodes space child bs (record { child = take (length child) (cells_of bs); node = lead.node; parent = take lead.width (cells_of b2) }) false some is (sym other)
+      taken_by nodes space child bs (row_with (take (length child) (cells_of bs)) lead.node (take lead.width (cells_of b2))) false some is (sym other)
       ∙ ap (taken child) same,
       omega arith,
     )
