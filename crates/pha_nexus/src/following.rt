@@ -76,10 +76,10 @@ fn go_along(
     spec: Vec<u32>,
 ) -> Result<(NodeId, Vec<u32>), Stop>
     requires { start < length t.now.nodes }
-    ensures ends { IfOk result (λ r. followed t.now.nodes space.now start spec.entry.items
+    ensures ends { IfOk result (λ r. followed t.now.nodes space.now start spec.items
         ≡ Ok (record { node = r.0; spec = r.1.items })) }
     ensures there { IfOk result (λ r. r.0 < length t.now.nodes) }
-    ensures stop { IfErr result (IsStop (followed t.now.nodes space.now start spec.entry.items)) }
+    ensures stop { IfErr result (IsStop (followed t.now.nodes space.now start spec.items)) }
 {
     let mut at = start;
     let mut carried = spec;

@@ -110,7 +110,7 @@ fn sent(
 ) -> Result<Vec<u32>, AllocError>
     requires { is_as_long spec.now (option_map (λ p. p.now) pass) ≡ true }
     ensures { IfOk result (λ v. v.items ≡ sent spec.now (option_map (λ p. p.now) pass.entry)
-        parent.entry.items) }
+        parent.items) }
 {
     match pass {
         None => Ok(parent),
@@ -140,15 +140,15 @@ fn aligned(
 // Puts cells behind others: each has a specifier's bits where the pass-through has ones, else those
 // of a parent cell.
 fn blended(
-    sent: Vec<u32>,
+    before: Vec<u32>,
     own: &[u32],
     pass: Cells<'_>,
     other: &[u32],
 ) -> Result<Vec<u32>, AllocError>
     ensures { IfOk result (λ v. v.items
-        ≡ sent.entry.items ++ blended own.now (cells_of pass.entry) other.now) }
+        ≡ before.items ++ blended own.now (cells_of pass.entry) other.now) }
 {
-    let mut sent = sent;
+    let mut sent = before;
     let mut pass = pass;
     let mut owns = own;
     let mut others = other;
