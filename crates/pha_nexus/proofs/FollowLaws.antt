@@ -44,3 +44,20 @@ pub is_broken : (left less : ℕ) (nodes : List NodeData) (space : List ℕ) (at
 is_broken left less nodes space at spec map b some e h =
     ap (λ (n : ℕ). followed_within n nodes space at spec) some ∙ (at_map less nodes space at spec map e
     ∙ ap (λ (r : Result Hop Rule). onward r (λ (hop : Hop). followed_within less nodes space hop.node hop.spec)) h)
+
+-- ---- as the loop goes
+
+pub carried_on : (left less : ℕ) (nodes : List NodeData) (space : List ℕ) (at : ℕ) (spec seen : List ℕ) (map : List Part) (node : ℕ) (sent : List ℕ) (total : Result Hop Rule)
+    → left ≡ suc less → Some map ≡ map_at nodes space at → seen ≡ spec → passed_at nodes space at seen map ≡ Ok (record { node = node; spec = sent })
+    → followed_within left nodes space at spec ≡ total → followed_within less nodes space node sent ≡ total
+carried_on left less nodes space at spec seen map node sent total some there same hop now =
+    let hop2 : passed_at nodes space at spec map ≡ Ok (record { node = node; spec = sent }) =
+        subst (λ (xs : List ℕ). passed_at nodes space at xs map ≡ Ok (record { node = node; spec = sent })) same hop in
+    sym (goes_on left less nodes space at spec map (record { node = node; spec = sent }) some (sym there) hop2) ∙ now
+
+pub broken_on : (left less : ℕ) (nodes : List NodeData) (space : List ℕ) (at : ℕ) (spec seen : List ℕ) (map : List Part) (b : Rule) (total : Result Hop Rule)
+    → left ≡ suc less → Some map ≡ map_at nodes space at → seen ≡ spec → passed_at nodes space at seen map ≡ Err b
+    → followed_within left nodes space at spec ≡ total → total ≡ Err b
+broken_on left less nodes space at spec seen map b total some there same bad now =
+    let bad2 : passed_at nodes space at spec map ≡ Err b = subst (λ (xs : List ℕ). passed_at nodes space at xs map ≡ Err b) same bad in
+    sym now ∙ is_broken left less nodes space at spec map b some (sym there) bad2

@@ -1,12 +1,19 @@
 -- Masks and pass-throughs, a cell at a time.
-use Rattle.std.proofs.Common.{◌≡◌, ◌∙◌, ◌+◌, ◌-◌, ◌*◌, ◌<◌, ◌≤◌, ◌++◌, ◌∷◌, [], ◌&&◌, ℕ, zero, suc, Bool, true, false, List, Option, Some, None, bit_and, length, take, drop, nat_eq, refl, sym, ap, subst, arith, append_assoc, append-nil}
+use Rattle.std.proofs.Common.{◌≡◌, ◌∙◌, ◌+◌, ◌-◌, ◌*◌, ◌<◌, ◌≤◌, ◌++◌, ◌∷◌, [], ◌&&◌, ℕ, zero, suc, Bool, true, false, List, Option, Some, None, Result, Ok, Err, bit_and, length, take, drop, nat_eq, refl, sym, ap, subst, arith, append_assoc, if◌then◌else◌}
 use Rattle.std.proofs.lemmas.Bool.Decides.{nat_tests}
+use Rattle.std.proofs.lemmas.List.{append-nil}
 use Rattle.edt_base.specs.Cells.{cells_of}
-use Rattle.edt_base.specs.NodeData.{bytes_of}
+use Rattle.edt_base.specs.NodeData.{NodeData, bytes_of}
 use Rattle.edt_base.specs.Values.{value_cells}
+use Rattle.edt_base.specs.declared.fault.Rule.{Rule}
+use Rattle.edt_base.specs.declared.fault.Rule.TheVariants as rule
 use Rattle.edt_base.specs.declared.node.Part.{Part}
-use Rattle.pha_nexus.specs.Passing.{aligned, blended, chosen_bits, is_as_long, last_of, masked, shared_bits}
+use Rattle.pha_nexus.specs.Passing.{Hop, aligned, blended, chosen_bits, hop_by, is_as_long, last_of, masked, passed, sent, shared_bits}
+use Rattle.pha_nexus.specs.Rows.{Row, rows_of, taken}
+use Rattle.edt_base.specs.Refusals.{IsStop}
+use Rattle.edt_base.specs.declared.stop.Stop.{Stop}
 use Rattle.pha_nexus.proofs.CellLaws.{cells_drop}
+use Rattle.pha_nexus.proofs.RowLaws.{stop_on}
 
 -- as many cells as a quarter of the bytes
 pub cells_count : (n : ℕ) (bs : List ℕ) → length bs ≡ 4 * n → length (cells_of bs) ≡ n
@@ -33,58 +40,6 @@ pub masked_len : (spec : List ℕ) (mask : Option (List Part)) → is_as_long sp
 masked_len spec None e = refl
 masked_len spec (Some mask) e = shared_len spec (value_cells mask) (as_long spec mask e)
 
--- one cell more of a masked specifier
-pub shared_next : (left ws cells rest read new all : List ℕ) (w c x : ℕ) → left ≡ w ∷ ws → cells ≡ c ∷ rest → new ≡ read ++ x ∷ [] → x ≡ bit_and w c
-    → read ++ shared_bits left cells ≡ all → new ++ shared_bits ws rest ≡ all
-shared_next left ws cells rest read new all w c x l e pushed is h =
-    let cut : shared_bits left cells ≡ bit_and w c ∷ shared_bits ws rest = ap (λ (xs : List ℕ). shared_bits xs cells) l ∙ ap (λ (ys : List ℕ). shared_bits (w ∷ ws) ys) e in
-    let one : bit_and w c ∷ shared_bits ws rest ≡ x ∷ shared_bits ws rest = ap (λ (y : ℕ). y ∷ shared_bits ws rest) (sym is) in
-    ap (λ (xs : List ℕ). xs ++ shared_bits ws rest) pushed ∙ (append_assoc read (x ∷ []) (shared_bits ws rest)
-    ∙ (ap (λ (xs : List ℕ). read ++ xs) (sym (cut ∙ one)) ∙ h))
-
-shared_end : (left : List ℕ) → shared_bits left [] ≡ []
-shared_end [] = refl
-shared_end (x ∷ xs) = refl
-
-pub shared_none : (left cells read all : List ℕ) → cells ≡ [] → read ++ shared_bits left cells ≡ all → read ≡ all
-shared_none left cells read all e h =
-    let none : shared_bits left cells ≡ [] = ap (λ (ys : List ℕ). shared_bits left ys) e ∙ shared_end left in
-    sym (append-nil read) ∙ (ap (λ (xs : List ℕ). read ++ xs) (sym none) ∙ h)
-
--- one cell more of those that go on
-pub blended_next : (owns os cells rest others cs read new all : List ℕ) (o p c x : ℕ) → owns ≡ o ∷ os → cells ≡ p ∷ rest → others ≡ c ∷ cs → new ≡ read ++ x ∷ []
-    → x ≡ chosen_bits o p c → read ++ blended owns cells others ≡ all → new ++ blended os rest cs ≡ all
-blended_next owns os cells rest others cs read new all o p c x l e f pushed is h =
-    let cut : blended owns cells others ≡ chosen_bits o p c ∷ blended os rest cs =
-        ap (λ (xs : List ℕ). blended xs cells others) l ∙ (ap (λ (ys : List ℕ). blended (o ∷ os) ys others) e ∙ ap (λ (zs : List ℕ). blended (o ∷ os) (p ∷ rest) zs) f) in
-    let one : chosen_bits o p c ∷ blended os rest cs ≡ x ∷ blended os rest cs = ap (λ (y : ℕ). y ∷ blended os rest cs) (sym is) in
-    ap (λ (xs : List ℕ). xs ++ blended os rest cs) pushed ∙ (append_assoc read (x ∷ []) (blended os rest cs)
-    ∙ (ap (λ (xs : List ℕ). read ++ xs) (sym (cut ∙ one)) ∙ h))
-
-no_own : (cells others : List ℕ) → blended [] cells others ≡ []
-no_own cells others = refl
-
-no_bits : (owns others : List ℕ) → blended owns [] others ≡ []
-no_bits [] others = refl
-no_bits (o ∷ os) others = refl
-
-no_others : (owns cells : List ℕ) → blended owns cells [] ≡ []
-no_others [] cells = refl
-no_others (o ∷ os) [] = refl
-no_others (o ∷ os) (p ∷ ps) = refl
-
-none_more : (read more all : List ℕ) → more ≡ [] → read ++ more ≡ all → read ≡ all
-none_more read more all e h = sym (append-nil read) ∙ (ap (λ (xs : List ℕ). read ++ xs) (sym e) ∙ h)
-
-pub blended_no_own : (owns cells others read all : List ℕ) → owns ≡ [] → read ++ blended owns cells others ≡ all → read ≡ all
-blended_no_own owns cells others read all e h = none_more read _ all (ap (λ (xs : List ℕ). blended xs cells others) e) h
-
-pub blended_no_bits : (owns cells others read all : List ℕ) → cells ≡ [] → read ++ blended owns cells others ≡ all → read ≡ all
-blended_no_bits owns cells others read all e h = none_more read _ all (ap (λ (xs : List ℕ). blended owns xs others) e ∙ no_bits owns others) h
-
-pub blended_no_others : (owns cells others read all : List ℕ) → others ≡ [] → read ++ blended owns cells others ≡ all → read ≡ all
-blended_no_others owns cells others read all e h = none_more read _ all (ap (λ (xs : List ℕ). blended owns cells xs) e ∙ no_others owns cells) h
-
 -- the pieces of the three, cut by their lengths
 pub aligned_by : (spec bytes parent new : List ℕ) → length (cells_of bytes) ≡ length spec → new ≡ drop (4 * (length spec - length parent)) bytes
     → take (length parent - length spec) parent ++ blended (drop (length spec - length parent) spec) (cells_of new) (drop (length parent - length spec) parent)
@@ -93,3 +48,79 @@ aligned_by spec bytes parent new e h =
     let cut : cells_of new ≡ drop (length spec - length parent) (cells_of bytes) = ap cells_of h ∙ sym (cells_drop (length spec - length parent) bytes) in
     ap (λ (cs : List ℕ). take (length parent - length spec) parent ++ blended (drop (length spec - length parent) spec) cs (drop (length parent - length spec) parent)) cut
     ∙ ap (λ (n : ℕ). take (length parent - n) parent ++ blended (drop (length spec - length parent) spec) (drop (n - length parent) (cells_of bytes)) (drop (length parent - n) parent)) (sym e)
+
+-- ---- through a map
+
+fit_both : (spec : List ℕ) (mask pass : Option (List Part)) (r : Result Row Rule) → is_as_long spec mask ≡ true → is_as_long spec pass ≡ true
+    → (if is_as_long spec mask && is_as_long spec pass then hop_by spec pass r else Err rule.V28) ≡ hop_by spec pass r
+fit_both spec mask pass r a b = ap (λ (t : Bool). if t && is_as_long spec pass then hop_by spec pass r else Err rule.V28) a
+    ∙ ap (λ (t : Bool). if t then hop_by spec pass r else Err rule.V28) b
+
+-- the rows are cut by the masked specifier's length as by the specifier's
+taken_masked : (nodes : List NodeData) (space spec child : List ℕ) (map : List Part) (mask : Option (List Part)) (r : Result Row Rule) → is_as_long spec mask ≡ true
+    → child ≡ masked spec mask → taken child (rows_of nodes space (length child) map) ≡ r → taken (masked spec mask) (rows_of nodes space (length spec) map) ≡ r
+taken_masked nodes space spec child map mask r a e h =
+    subst (λ (n : ℕ). taken (masked spec mask) (rows_of nodes space n map) ≡ r) (masked_len spec mask a)
+        (subst (λ (c : List ℕ). taken c (rows_of nodes space (length c) map) ≡ r) e h)
+
+pub passed_on : (nodes : List NodeData) (space spec child : List ℕ) (map : List Part) (mask pass : Option (List Part)) (node : ℕ) (parent out : List ℕ)
+    → is_as_long spec mask ≡ true → is_as_long spec pass ≡ true → child ≡ masked spec mask
+    → taken child (rows_of nodes space (length child) map) ≡ Ok (record { child = child; node = node; parent = parent }) → out ≡ sent spec pass parent
+    → passed nodes space spec map mask pass ≡ Ok (record { node = node; spec = out })
+passed_on nodes space spec child map mask pass node parent out a b e h o =
+    let row : Row = record { child = child; node = node; parent = parent } in
+    let going : taken (masked spec mask) (rows_of nodes space (length spec) map) ≡ Ok row = taken_masked nodes space spec child map mask (Ok row) a e h in
+    let hop : List ℕ → Hop = λ xs. record { node = node; spec = xs } in
+    fit_both spec mask pass (taken (masked spec mask) (rows_of nodes space (length spec) map)) a b ∙ (ap (hop_by spec pass) going ∙ ap (λ (xs : List ℕ). Ok (hop xs)) (sym o))
+
+pub passed_not : (nodes : List NodeData) (space spec child : List ℕ) (map : List Part) (mask pass : Option (List Part)) (b : Rule)
+    → is_as_long spec mask ≡ true → is_as_long spec pass ≡ true → child ≡ masked spec mask
+    → taken child (rows_of nodes space (length child) map) ≡ Err b → passed nodes space spec map mask pass ≡ Err b
+passed_not nodes space spec child map mask pass b m p e h =
+    fit_both spec mask pass (taken (masked spec mask) (rows_of nodes space (length spec) map)) m p
+    ∙ ap (hop_by spec pass) (taken_masked nodes space spec child map mask (Err b) m e h)
+
+pub unfit_one : (nodes : List NodeData) (space spec : List ℕ) (map : List Part) (mask pass : Option (List Part)) (x y : Bool)
+    → is_as_long spec mask ≡ x → is_as_long spec pass ≡ y → (x && y) ≡ false → passed nodes space spec map mask pass ≡ Err rule.V28
+unfit_one nodes space spec map mask pass x y a b e =
+    let both : (is_as_long spec mask && is_as_long spec pass) ≡ false =
+        ap (λ (t : Bool). t && is_as_long spec pass) a ∙ (ap (λ (t : Bool). x && t) b ∙ e) in
+    ap (λ (t : Bool). if t then hop_by spec pass (taken (masked spec mask) (rows_of nodes space (length spec) map)) else Err rule.V28) both
+
+pub passed_stop : (nodes : List NodeData) (space spec child : List ℕ) (map : List Part) (mask pass : Option (List Part)) (s : Stop)
+    → is_as_long spec mask ≡ true → is_as_long spec pass ≡ true → child ≡ masked spec mask
+    → IsStop (taken child (rows_of nodes space (length child) map)) s → IsStop (passed nodes space spec map mask pass) s
+passed_stop nodes space spec child map mask pass s m p e is =
+    stop_on (taken child (rows_of nodes space (length child) map)) (passed nodes space spec map mask pass) s
+        (λ (b : Rule). λ (h : taken child (rows_of nodes space (length child) map) ≡ Err b). passed_not nodes space spec child map mask pass b m p e h) is
+
+-- ---- a pass-through, from its pieces
+
+skipped : (t : Bool) (n : ℕ) (bytes new : List ℕ) → (t ≡ true → (new ≡ drop (4 * n) bytes) × (n ≤ length (cells_of bytes))) → (t ≡ false → length (cells_of bytes) < n)
+    → n ≤ length (cells_of bytes) → new ≡ drop (4 * n) bytes
+skipped true n bytes new there short le = (there refl).0
+skipped false n bytes new there short le = let less : length (cells_of bytes) < n = short refl in absurd (omega arith)
+
+pub aligned_from : (spec parent bytes new own before other out : List ℕ) (cut kept : ℕ) (t : Bool) → length (cells_of bytes) ≡ length spec
+    → cut ≡ length spec - length parent → kept ≡ length parent - length spec → own ≡ drop cut spec → before ≡ take kept parent → other ≡ drop kept parent
+    → (t ≡ true → (new ≡ drop (4 * cut) bytes) × (cut ≤ length (cells_of bytes))) → (t ≡ false → length (cells_of bytes) < cut)
+    → out ≡ before ++ blended own (cells_of new) other → out ≡ aligned spec (cells_of bytes) parent
+aligned_from spec parent bytes new own before other out cut kept t e c k is_own is_before is_other there short is =
+    let le : cut ≤ length (cells_of bytes) = omega arith in
+    let new2 : new ≡ drop (4 * (length spec - length parent)) bytes = skipped t cut bytes new there short le ∙ ap (λ (n : ℕ). drop (4 * n) bytes) c in
+    let own2 : own ≡ drop (length spec - length parent) spec = is_own ∙ ap (λ (n : ℕ). drop n spec) c in
+    let before2 : before ≡ take (length parent - length spec) parent = is_before ∙ ap (λ (n : ℕ). take n parent) k in
+    let other2 : other ≡ drop (length parent - length spec) parent = is_other ∙ ap (λ (n : ℕ). drop n parent) k in
+    is ∙ (ap (λ (b : List ℕ). b ++ blended own (cells_of new) other) before2
+    ∙ (ap (λ (o : List ℕ). take (length parent - length spec) parent ++ blended o (cells_of new) other) own2
+    ∙ (ap (λ (o : List ℕ). take (length parent - length spec) parent ++ blended (drop (length spec - length parent) spec) (cells_of new) o) other2
+    ∙ aligned_by spec bytes parent new e new2)))
+
+pub aligned_of : (spec parent whole bytes new own before other out : List ℕ) (cut kept : ℕ) (t : Bool) → bytes ≡ whole → length (cells_of whole) ≡ length spec
+    → cut ≡ length spec - length parent → kept ≡ length parent - length spec → own ≡ drop cut spec → before ≡ take kept parent → other ≡ drop kept parent
+    → (t ≡ true → (new ≡ drop (4 * cut) bytes) × (cut ≤ length (cells_of bytes))) → (t ≡ false → length (cells_of bytes) < cut)
+    → out ≡ before ++ blended own (cells_of new) other → out ≡ aligned spec (cells_of whole) parent
+aligned_of spec parent whole bytes new own before other out cut kept t e n c k is_own is_before is_other there short is =
+    let size : length (cells_of bytes) ≡ length spec = ap (λ (bs : List ℕ). length (cells_of bs)) e ∙ n in
+    subst (λ (bs : List ℕ). out ≡ aligned spec (cells_of bs) parent) e
+        (aligned_from spec parent bytes new own before other out cut kept t size c k is_own is_before is_other there short is)

@@ -3,8 +3,10 @@
 
 mod cells;
 mod following;
+mod laws;
 mod passing;
 mod rows;
 mod space;
 
 pub use following::follow;
+pub use laws::specifiers_are_followed_along_chains;

@@ -1,8 +1,7 @@
 //! How a specifier passes a nexus node.
 
-ghost use Rattle.std.specs.Prelude.{◌≡◌, ◌<◌, ◌++◌, ◌*◌, IfOk, IfErr, IfSome, Ok, true, length, option_map};
+ghost use Rattle.std.specs.Prelude.{◌≡◌, ◌<◌, ◌++◌, ◌*◌, IfOk, IfErr, Ok, Some, true, length, option_map};
 ghost use Rattle.edt_base.specs.Cells.{cells_of};
-ghost use Rattle.edt_base.specs.NodeData.{bytes_of};
 ghost use Rattle.edt_base.specs.Refusals.{IsStop};
 ghost use Rattle.edt_base.specs.Values.{value_cells};
 ghost use Rattle.pha_nexus.specs.Passing.{aligned, blended, chosen_bits, is_as_long, masked, passed, passed_at, sent, shared_bits};
@@ -114,7 +113,7 @@ fn sent(
 {
     match pass {
         None => Ok(parent),
-        Some(pass) => aligned(alloc, spec, pass.parts.as_slice(), parent.as_slice()),
+        Some(pass) => aligned(alloc, spec, pass, parent.as_slice()),
     }
 }
 
@@ -122,19 +121,21 @@ fn sent(
 fn aligned(
     alloc: Global,
     spec: &[u32],
-    pass: &[Part],
+    pass: &PropVal,
     parent: &[u32],
 ) -> Result<Vec<u32>, AllocError>
-    requires { length (value_cells pass.now) ≡ length spec.now }
+    requires { is_as_long spec.now (Some pass.now) ≡ true }
     ensures { IfOk result (λ v. v.items ≡ aligned spec.now (value_cells pass.now) parent.now) }
 {
     let cut = spec.len().saturating_sub(parent.len());
     let kept = parent.len().saturating_sub(spec.len());
     let (_, own) = spec.split_at(cut);
     let (unchanged, other) = parent.split_at(kept);
-    let mut pass = Cells::of(pass);
+    let mut pass = Cells::of(pass.parts.as_slice());
     skip(&mut pass, cut);
-    blended(Vec::from_slice(alloc, unchanged)?, own, pass, other)
+    let before = Vec::from_slice(alloc, unchanged)?;
+    let sent = blended(before, own, pass, other)?;
+    Ok(sent)
 }
 
 // Puts cells behind others: each has a specifier's bits where the pass-through has ones, else those
