@@ -178,14 +178,14 @@ record HopOf (spec : List ℕ) (pass : Option (List Part)) (r : Result Row Rule)
   pub row : Row
   pub is : r ≡ Ok row
   pub node : hop.node ≡ row.node
-  pub spec : hop.spec ≡ sent spec pass row.parent
+  pub sends : hop.spec ≡ sent spec pass row.parent
 
 hop_from : (spec : List ℕ) (pass : Option (List Part)) (r : Result Row Rule) (hop : Hop) → hop_by spec pass r ≡ Ok hop → HopOf spec pass r hop
 hop_from spec pass (Err b) hop e = let no_way : ⊥ = cc in absurd no_way
 hop_from spec pass (Ok row) hop e =
     let made : Hop = record { node = row.node; spec = sent spec pass row.parent } in
     let same : hop ≡ made = cc in
-    record { row = row; is = refl; node = ap (λ (h : Hop). h.node) same; spec = ap (λ (h : Hop). h.spec) same }
+    record { row = row; is = refl; node = ap (λ (h : Hop). h.node) same; sends = ap (λ (h : Hop). h.spec) same }
 
 hop_err : (spec : List ℕ) (pass : Option (List Part)) (r : Result Row Rule) (b : Rule) → hop_by spec pass r ≡ Err b → r ≡ Err b
 hop_err spec pass (Err d) b e = let same : d ≡ b = cc in ap (λ (x : Rule). Err x) same
@@ -207,7 +207,7 @@ taken_step nodes space at spec map hop there e =
     let from = hop_from spec (pass_at nodes space at) (taken (masked spec (mask_at nodes space at)) (rows_of nodes space (length spec) map)) hop tests.2 in
     let first = taken_first (masked spec (mask_at nodes space at)) (rows_of nodes space (length spec) map) from.row from.is in
     let is : IsTaken nodes space at spec from.row = record { map = map; there = there; fitting = record { mask = tests.0; pass = tests.1 }; first = first.0; same = first.1 } in
-    (from.row, is, from.node, from.spec)
+    (from.row, is, from.node, from.sends)
 
 chain_moved : (nodes : List NodeData) (space : List ℕ) (n m : ℕ) (xs ys : List ℕ) (rows : List Row) (last : ℕ) (end : List ℕ) → n ≡ m → xs ≡ ys
     → IsChain nodes space n xs rows last end → IsChain nodes space m ys rows last end
@@ -238,7 +238,7 @@ ends_at_once left nodes space at spec hop made is same none =
     }
 
 ends_with_none : (nodes : List NodeData) (space : List ℕ) (at : ℕ) (spec : List ℕ) (hop : Hop) (m : Option (List Part)) → map_at nodes space at ≡ m
-    → option_map_or (λ (map : List Part). Err rule.V29) m (Ok (record { node = at; spec = spec })) ≡ Ok hop → EndsWithin zero nodes space at spec hop
+    → option_map_or {U = Result Hop Rule} (λ (map : List Part). Err rule.V29) m (Ok (record { node = at; spec = spec })) ≡ Ok hop → EndsWithin zero nodes space at spec hop
 ends_with_none nodes space at spec hop None there f =
     let made : Hop = record { node = at; spec = spec } in let same : made ≡ hop = cc in ends_at_once zero nodes space at spec hop made refl same there
 ends_with_none nodes space at spec hop (Some map) there f = let no_way : ⊥ = cc in absurd no_way
@@ -255,7 +255,7 @@ ends_by_pass left nodes space at spec hop map (Ok one) more there is f = ends_st
 
 ends_by_map : (left : ℕ) (nodes : List NodeData) (space : List ℕ) (at : ℕ) (spec : List ℕ) (hop : Hop) (m : Option (List Part)) → EndsAlways left nodes space
     → map_at nodes space at ≡ m
-    → option_map_or (λ (map : List Part). onward (passed_at nodes space at spec map) (λ (h : Hop). followed_within left nodes space h.node h.spec)) m (Ok (record { node = at; spec = spec })) ≡ Ok hop
+    → option_map_or {U = Result Hop Rule} (λ (map : List Part). onward (passed_at nodes space at spec map) (λ (h : Hop). followed_within left nodes space h.node h.spec)) m (Ok (record { node = at; spec = spec })) ≡ Ok hop
     → EndsWithin (suc left) nodes space at spec hop
 ends_by_map left nodes space at spec hop None more there f =
     let made : Hop = record { node = at; spec = spec } in let same : made ≡ hop = cc in ends_at_once (suc left) nodes space at spec hop made refl same there
@@ -331,7 +331,7 @@ breaks_step left nodes space at spec map hop b there e more =
     }
 
 breaks_with_none : (nodes : List NodeData) (space : List ℕ) (at : ℕ) (spec : List ℕ) (b : Rule) (m : Option (List Part)) → map_at nodes space at ≡ m
-    → option_map_or (λ (map : List Part). Err rule.V29) m (Ok (record { node = at; spec = spec })) ≡ Err b → BreaksWithin zero nodes space at spec b
+    → option_map_or {U = Result Hop Rule} (λ (map : List Part). Err rule.V29) m (Ok (record { node = at; spec = spec })) ≡ Err b → BreaksWithin zero nodes space at spec b
 breaks_with_none nodes space at spec b None there f = let no_way : ⊥ = cc in absurd no_way
 breaks_with_none nodes space at spec b (Some map) there f =
     let is : b ≡ rule.V29 = cc in
@@ -351,7 +351,7 @@ breaks_by_pass left nodes space at spec b map (Ok one) more there is f = breaks_
 
 breaks_by_map : (left : ℕ) (nodes : List NodeData) (space : List ℕ) (at : ℕ) (spec : List ℕ) (b : Rule) (m : Option (List Part)) → BreaksAlways left nodes space
     → map_at nodes space at ≡ m
-    → option_map_or (λ (map : List Part). onward (passed_at nodes space at spec map) (λ (h : Hop). followed_within left nodes space h.node h.spec)) m (Ok (record { node = at; spec = spec })) ≡ Err b
+    → option_map_or {U = Result Hop Rule} (λ (map : List Part). onward (passed_at nodes space at spec map) (λ (h : Hop). followed_within left nodes space h.node h.spec)) m (Ok (record { node = at; spec = spec })) ≡ Err b
     → BreaksWithin (suc left) nodes space at spec b
 breaks_by_map left nodes space at spec b None more there f = let no_way : ⊥ = cc in absurd no_way
 breaks_by_map left nodes space at spec b (Some map) more there f = breaks_by_pass left nodes space at spec b map (passed_at nodes space at spec map) more there refl f
