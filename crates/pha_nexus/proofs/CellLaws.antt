@@ -41,13 +41,13 @@ pub cut_next : (k j : ℕ) (xs rest : List ℕ) (c : ℕ) → j ≡ suc k → dr
 cut_next zero j xs rest c e h =
     let one : (take 1 (c ∷ rest) ≡ c ∷ []) × (drop 1 (c ∷ rest) ≡ rest) × (1 ≤ length (c ∷ rest)) = (refl, refl, omega arith) in
     let two : (take 1 xs ≡ c ∷ []) × (drop 1 xs ≡ rest) × (1 ≤ length xs) =
-        subst (λ (ys : List ℕ). (take 1 ys ≡ c ∷ []) × (drop 1 ys ≡ rest) × (1 ≤ length ys)) (sym h) one in
+    subst (λ (ys : List ℕ). (take 1 ys ≡ c ∷ []) × (drop 1 ys ≡ rest) × (1 ≤ length ys)) (sym h) one in
     subst (λ (n : ℕ). (take n xs ≡ c ∷ []) × (drop n xs ≡ rest) × (n ≤ length xs)) (sym e) two
 cut_next (suc k) j [] rest c e h = cc
 cut_next (suc k) j (x ∷ xs) rest c e h =
     let more : (take (suc k) xs ≡ take k xs ++ c ∷ []) × (drop (suc k) xs ≡ rest) × (suc k ≤ length xs) = cut_next k (suc k) xs rest c refl h in
     let one : (take (suc (suc k)) (x ∷ xs) ≡ x ∷ (take k xs ++ c ∷ [])) × (drop (suc (suc k)) (x ∷ xs) ≡ rest) × (suc (suc k) ≤ length (x ∷ xs)) =
-        (ap (λ (ys : List ℕ). x ∷ ys) more.0, more.1, omega arith) in
+    (ap (λ (ys : List ℕ). x ∷ ys) more.0, more.1, omega arith) in
     subst (λ (n : ℕ). (take n (x ∷ xs) ≡ x ∷ (take k xs ++ c ∷ [])) × (drop n (x ∷ xs) ≡ rest) × (n ≤ length (x ∷ xs))) (sym e) one
 
 -- cells and bytes: the cells behind some, and how many there are

@@ -143,7 +143,7 @@ along [] left less nodes space at spec last end n chain =
 along (row ∷ rows) left less nodes space at spec last end n chain =
     let more : left ≡ suc (length rows + less) = omega arith in
     goes_on left (length rows + less) nodes space at spec chain.0.map (record { node = row.node; spec = sent spec (pass_at nodes space at) row.parent }) more chain.0.there
-        (taken_pass nodes space at spec row chain.0)
+    (taken_pass nodes space at spec row chain.0)
     ∙ along rows (length rows + less) less nodes space row.node (sent spec (pass_at nodes space at) row.parent) last end refl chain.1
 
 -- each chain that ends is followed to its end
@@ -286,7 +286,7 @@ broken_by_tests : (nodes : List NodeData) (space : List ℕ) (at : ℕ) (spec : 
     → IsBrokenAt nodes space at spec map b
 broken_by_tests nodes space at spec map b true true mask pass e =
     let why = refused_why (masked spec (mask_at nodes space at)) (rows_of nodes space (length spec) map) b
-        (hop_err spec (pass_at nodes space at) (taken (masked spec (mask_at nodes space at)) (rows_of nodes space (length spec) map)) b e) in
+    (hop_err spec (pass_at nodes space at) (taken (masked spec (mask_at nodes space at)) (rows_of nodes space (length spec) map)) b e) in
     broken_why nodes space at spec map b (record { mask = mask; pass = pass }) why
 broken_by_tests nodes space at spec map b true false mask pass e =
     let is : rule.V28 ≡ b = cc in

@@ -52,7 +52,7 @@ pub carried_on : (left less : ℕ) (nodes : List NodeData) (space : List ℕ) (a
     → followed_within left nodes space at spec ≡ total → followed_within less nodes space node sent ≡ total
 carried_on left less nodes space at spec seen map node sent total some there same hop now =
     let hop2 : passed_at nodes space at spec map ≡ Ok (record { node = node; spec = sent }) =
-        subst (λ (xs : List ℕ). passed_at nodes space at xs map ≡ Ok (record { node = node; spec = sent })) same hop in
+    subst (λ (xs : List ℕ). passed_at nodes space at xs map ≡ Ok (record { node = node; spec = sent })) same hop in
     sym (goes_on left less nodes space at spec map (record { node = node; spec = sent }) some (sym there) hop2) ∙ now
 
 pub broken_on : (left less : ℕ) (nodes : List NodeData) (space : List ℕ) (at : ℕ) (spec seen : List ℕ) (map : List Part) (b : Rule) (total : Result Hop Rule)

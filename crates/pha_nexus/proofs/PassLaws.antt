@@ -61,7 +61,7 @@ taken_masked : (nodes : List NodeData) (space spec child : List ℕ) (map : List
     → child ≡ masked spec mask → taken child (rows_of nodes space (length child) map) ≡ r → taken (masked spec mask) (rows_of nodes space (length spec) map) ≡ r
 taken_masked nodes space spec child map mask r a e h =
     subst (λ (n : ℕ). taken (masked spec mask) (rows_of nodes space n map) ≡ r) (masked_len spec mask a)
-        (subst (λ (c : List ℕ). taken c (rows_of nodes space (length c) map) ≡ r) e h)
+    (subst (λ (c : List ℕ). taken c (rows_of nodes space (length c) map) ≡ r) e h)
 
 pub passed_on : (nodes : List NodeData) (space spec child : List ℕ) (map : List Part) (mask pass : Option (List Part)) (node : ℕ) (parent out : List ℕ)
     → is_as_long spec mask ≡ true → is_as_long spec pass ≡ true → child ≡ masked spec mask
@@ -84,7 +84,7 @@ pub unfit_one : (nodes : List NodeData) (space spec : List ℕ) (map : List Part
     → is_as_long spec mask ≡ x → is_as_long spec pass ≡ y → (x && y) ≡ false → passed nodes space spec map mask pass ≡ Err rule.V28
 unfit_one nodes space spec map mask pass x y a b e =
     let both : (is_as_long spec mask && is_as_long spec pass) ≡ false =
-        ap (λ (t : Bool). t && is_as_long spec pass) a ∙ (ap (λ (t : Bool). x && t) b ∙ e) in
+    ap (λ (t : Bool). t && is_as_long spec pass) a ∙ (ap (λ (t : Bool). x && t) b ∙ e) in
     ap (λ (t : Bool). if t then hop_by spec pass (taken (masked spec mask) (rows_of nodes space (length spec) map)) else Err rule.V28) both
 
 pub passed_stop : (nodes : List NodeData) (space spec child : List ℕ) (map : List Part) (mask pass : Option (List Part)) (s : Stop)
@@ -92,7 +92,7 @@ pub passed_stop : (nodes : List NodeData) (space spec child : List ℕ) (map : L
     → IsStop (taken child (rows_of nodes space (length child) map)) s → IsStop (passed nodes space spec map mask pass) s
 passed_stop nodes space spec child map mask pass s m p e is =
     stop_on (taken child (rows_of nodes space (length child) map)) (passed nodes space spec map mask pass) s
-        (λ (b : Rule). λ (h : taken child (rows_of nodes space (length child) map) ≡ Err b). passed_not nodes space spec child map mask pass b m p e h) is
+    (λ (b : Rule). λ (h : taken child (rows_of nodes space (length child) map) ≡ Err b). passed_not nodes space spec child map mask pass b m p e h) is
 
 -- ---- a pass-through, from its pieces
 
@@ -123,4 +123,4 @@ pub aligned_of : (spec parent whole bytes new own before other out : List ℕ) (
 aligned_of spec parent whole bytes new own before other out cut kept t e n c k is_own is_before is_other there short is =
     let size : length (cells_of bytes) ≡ length spec = ap (λ (bs : List ℕ). length (cells_of bs)) e ∙ n in
     subst (λ (bs : List ℕ). out ≡ aligned spec (cells_of bs) parent) e
-        (aligned_from spec parent bytes new own before other out cut kept t size c k is_own is_before is_other there short is)
+    (aligned_from spec parent bytes new own before other out cut kept t size c k is_own is_before is_other there short is)

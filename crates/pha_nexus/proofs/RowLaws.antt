@@ -55,11 +55,11 @@ rows_begin nodes space width (a ∷ b ∷ c ∷ d ∷ bs) h =
     let all : List ℕ = a ∷ b ∷ c ∷ d ∷ bs in
     let rest : Bool = has_rest (length (a ∷ b ∷ c ∷ d ∷ bs)) in
     more_alike (first_row nodes space width (cells_of (a ∷ b ∷ c ∷ d ∷ bs)))
-        (λ (row : Row). rows_after nodes space width (has_rest (length (a ∷ b ∷ c ∷ d ∷ bs))) (width + length row.parent) (cells_of bs))
-        (after_first nodes space width (a ∷ b ∷ c ∷ d ∷ bs))
-        (λ (row : Row). let sum : suc (width + length row.parent) ≡ width + 1 + length row.parent = omega arith in
-          behind nodes space width (has_rest (length (a ∷ b ∷ c ∷ d ∷ bs))) (width + length row.parent) (cells_of bs)
-          ∙ ap (λ (k : ℕ). rows_after nodes space width (has_rest (length (a ∷ b ∷ c ∷ d ∷ bs))) 0 (drop k (cells_of (a ∷ b ∷ c ∷ d ∷ bs)))) sum)
+    (λ (row : Row). rows_after nodes space width (has_rest (length (a ∷ b ∷ c ∷ d ∷ bs))) (width + length row.parent) (cells_of bs))
+    (after_first nodes space width (a ∷ b ∷ c ∷ d ∷ bs))
+    (λ (row : Row). let sum : suc (width + length row.parent) ≡ width + 1 + length row.parent = omega arith in
+    behind nodes space width (has_rest (length (a ∷ b ∷ c ∷ d ∷ bs))) (width + length row.parent) (cells_of bs)
+    ∙ ap (λ (k : ℕ). rows_after nodes space width (has_rest (length (a ∷ b ∷ c ∷ d ∷ bs))) 0 (drop k (cells_of (a ∷ b ∷ c ∷ d ∷ bs)))) sum)
 
 -- what is read of a first row: its child cells are passed over, then comes its phandle
 row_is : (nodes : List NodeData) (space child bs b1 b2 : List ℕ) (phandle : ℕ) → b1 ≡ drop (4 * length child) bs → cells_of b1 ≡ phandle ∷ cells_of b2
@@ -127,8 +127,8 @@ pub row_taken : (nodes : List NodeData) (space child bs b1 b2 parent : List ℕ)
     → taken child (rows_left nodes space (length child) bs) ≡ Ok (record { child = child; node = lead.node; parent = parent })
 row_taken nodes space child bs b1 b2 parent phandle lead some e same h led whole =
     let is : first_row nodes space (length child) (cells_of bs) ≡ Ok (row_with (take (length child) (cells_of bs)) lead.node parent) =
-        row_is nodes space child bs b1 b2 phandle e h ∙ (ap (whole_row (take (length child) (cells_of bs)) (cells_of b2)) (sym led)
-        ∙ whole_good (nat_lt (length (cells_of b2)) lead.width) (take lead.width (cells_of b2)) parent (take (length child) (cells_of bs)) lead.node whole) in
+    row_is nodes space child bs b1 b2 phandle e h ∙ (ap (whole_row (take (length child) (cells_of bs)) (cells_of b2)) (sym led)
+    ∙ whole_good (nat_lt (length (cells_of b2)) lead.width) (take lead.width (cells_of b2)) parent (take (length child) (cells_of bs)) lead.node whole) in
     taken_by nodes space child bs (row_with (take (length child) (cells_of bs)) lead.node parent) true some is (sym same)
     ∙ ap (λ (xs : List ℕ). Ok (row_with xs lead.node parent)) (same_lists (take (length child) (cells_of bs)) child (sym same))
 
@@ -139,8 +139,8 @@ pub row_passed : (nodes : List NodeData) (space child bs b1 b2 b3 : List ℕ) (p
 row_passed nodes space child bs b1 b2 b3 phandle lead some e other h g four led k3 le =
     let fits : nat_lt (length (cells_of b2)) lead.width ≡ false = grind (arith, nat_tests) in
     let is : first_row nodes space (length child) (cells_of bs) ≡ Ok (row_with (take (length child) (cells_of bs)) lead.node (take lead.width (cells_of b2))) =
-        row_is nodes space child bs b1 b2 phandle e h ∙ (ap (whole_row (take (length child) (cells_of bs)) (cells_of b2)) (sym led)
-        ∙ ap (λ (b : Bool). if b then Err rule.V26 else Ok (row_with (take (length child) (cells_of bs)) lead.node (take lead.width (cells_of b2)))) fits) in
+    row_is nodes space child bs b1 b2 phandle e h ∙ (ap (whole_row (take (length child) (cells_of bs)) (cells_of b2)) (sym led)
+    ∙ ap (λ (b : Bool). if b then Err rule.V26 else Ok (row_with (take (length child) (cells_of bs)) lead.node (take lead.width (cells_of b2)))) fits) in
     let len : length (take lead.width (cells_of b2)) ≡ lead.width = length-take-le lead.width (cells_of b2) le in
     let l1 : length b1 ≡ length bs - 4 * length child = ap length e ∙ length-drop (4 * length child) bs in
     let l2 : length b2 ≡ length b1 - 4 = ap length g ∙ length-drop 4 b1 in
@@ -149,17 +149,17 @@ row_passed nodes space child bs b1 b2 b3 phandle lead some e other h g four led 
     let total : length bs ≡ length b3 + 4 * (length child + 1 + length (take lead.width (cells_of b2))) = omega arith in
     let far : 4 * length child + (4 + 4 * lead.width) ≡ 4 * (length child + 1 + length (take lead.width (cells_of b2))) = omega arith in
     let at : b3 ≡ drop (4 * (length child + 1 + length (take lead.width (cells_of b2)))) bs =
-        k3 ∙ (ap (drop (4 * lead.width)) g ∙ (drop-drop (4 * lead.width) 4 b1 ∙ (ap (drop (4 + 4 * lead.width)) e
-        ∙ (drop-drop (4 + 4 * lead.width) (4 * length child) bs ∙ ap (λ (j : ℕ). drop j bs) far)))) in
+    k3 ∙ (ap (drop (4 * lead.width)) g ∙ (drop-drop (4 * lead.width) 4 b1 ∙ (ap (drop (4 + 4 * lead.width)) e
+    ∙ (drop-drop (4 + 4 * lead.width) (4 * length child) bs ∙ ap (λ (j : ℕ). drop j bs) far)))) in
     let cells : drop (length child + 1 + length (take lead.width (cells_of b2))) (cells_of bs) ≡ cells_of b3 =
-        cells_drop (length child + 1 + length (take lead.width (cells_of b2))) bs ∙ ap cells_of (sym at) in
+    cells_drop (length child + 1 + length (take lead.width (cells_of b2))) bs ∙ ap cells_of (sym at) in
     let rests : length bs % 4 ≡ length b3 % 4 =
-        ap (λ (j : ℕ). j % 4) total ∙ add-mul-mod_self_left (length b3) 4 (length child + 1 + length (take lead.width (cells_of b2))) in
+    ap (λ (j : ℕ). j % 4) total ∙ add-mul-mod_self_left (length b3) 4 (length child + 1 + length (take lead.width (cells_of b2))) in
     let same : after_first nodes space (length child) bs (row_with (take (length child) (cells_of bs)) lead.node (take lead.width (cells_of b2)))
-        ≡ rows_left nodes space (length child) b3 =
-        ap (λ (j : ℕ). rows_after nodes space (length child) (nat_lt 0 j) 0 (drop (length child + 1 + length (take lead.width (cells_of b2))) (cells_of bs))) rests
-        ∙ ap (λ (cs : List ℕ). rows_after nodes space (length child) (has_rest (length b3)) 0 cs) cells in (
+    ≡ rows_left nodes space (length child) b3 =
+    ap (λ (j : ℕ). rows_after nodes space (length child) (nat_lt 0 j) 0 (drop (length child + 1 + length (take lead.width (cells_of b2))) (cells_of bs))) rests
+    ∙ ap (λ (cs : List ℕ). rows_after nodes space (length child) (has_rest (length b3)) 0 cs) cells in (
       taken_by nodes space child bs (row_with (take (length child) (cells_of bs)) lead.node (take lead.width (cells_of b2))) false some is (sym other)
-      ∙ ap (taken child) same,
+          ∙ ap (taken child) same,
       omega arith,
     )

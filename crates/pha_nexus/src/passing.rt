@@ -30,7 +30,15 @@ pub(crate) fn pass(
     ensures stop { IfErr result (IsStop (passed_at t.now.nodes space.now at spec.now map.now)) }
 {
     let map = map.parts.as_slice();
-    pass_map(alloc, t, space, spec, map, space.mask(t, at), space.pass(t, at))
+    pass_map(
+        alloc,
+        t,
+        space,
+        spec,
+        map,
+        space.mask(t, at),
+        space.pass(t, at),
+    )
 }
 
 // The same by a map with this mask and this pass-through.

@@ -101,11 +101,7 @@ fn count(t: &Tree, id: NodeId, name: &str) -> Option<u32>
     t.prop(id, name)?.single_cell()
 }
 
-fn width_by(
-    is_interrupt: bool,
-    address: Option<u32>,
-    cells: Option<u32>,
-) -> Result<usize, Rule>
+fn width_by(is_interrupt: bool, address: Option<u32>, cells: Option<u32>) -> Result<usize, Rule>
     ensures { result ≡ width_by is_interrupt address cells }
 {
     match cells {

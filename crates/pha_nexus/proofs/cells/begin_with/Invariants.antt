@@ -5,7 +5,7 @@ use Rattle.pha_nexus.proofs.cells.begin_with.Given as goal
 
 abbrev pub invariant-loop-wanted : goal.invariant-loop-wanted
 invariant-loop-wanted l = ((l.are_same && are_same (take (length l.left) (cells_of l.cells)) l.left)
-        ≡ are_same (take (length l.wanted) (cells_of l.initial.cells)) l.wanted)
+    ≡ are_same (take (length l.wanted) (cells_of l.initial.cells)) l.wanted)
     × (drop (4 * length l.left) l.cells ≡ drop (4 * length l.wanted) l.initial.cells)
 
 abbrev pub decreases-loop-wanted : goal.decreases-loop-wanted

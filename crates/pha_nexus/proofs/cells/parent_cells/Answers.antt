@@ -6,7 +6,7 @@ use Rattle.pha_nexus.proofs.cells.parent_cells.Goals as goal
 pub loop-preserved : goal.loop-preserved
 loop-preserved c =
     let next = cut_next c.loop.counter (c.loop.counter + 1) (cells_of c.args.cells.now) (cells_of c.next.new.self) c.in-Some.cell (omega arith)
-        (sym c.loop.invariant.1 ∙ c.in-Some.ensures.cells) in (
+    (sym c.loop.invariant.1 ∙ c.in-Some.ensures.cells) in (
       c.in_ok-push-in-Some.ensures.items ∙ (ap (λ (xs : List ℕ). xs ++ c.in-Some.cell ∷ []) c.loop.invariant.0 ∙ sym next.0),
       sym next.1,
       next.2,

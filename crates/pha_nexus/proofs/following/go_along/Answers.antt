@@ -13,10 +13,10 @@ pub returns-in-Err-clause-stop : goal.returns-in-Err-clause-stop
 returns-in-Err-clause-stop c =
     let more : c.loop-map.left ≡ suc (c.loop-map.left - 1) = omega arith in
     stop_on (passed_at c.args.t.now.nodes c.args.space.now c.loop-map.at c.as_slice.result.now c.in-Some.map.now)
-        (followed c.args.t.now.nodes c.args.space.now c.args.start c.args.spec.items) c.in-Err.stop
-        (λ b bad. broken_on c.loop-map.left (c.loop-map.left - 1) c.args.t.now.nodes c.args.space.now c.loop-map.at c.loop-map.carried.items c.as_slice.result.now c.in-Some.map.now b _
-          more c.in-Some.ensures c.as_slice.ensures.value bad c.loop-map.invariant.0)
-        c.in-Err.ensures.stop
+    (followed c.args.t.now.nodes c.args.space.now c.args.start c.args.spec.items) c.in-Err.stop
+    (λ b bad. broken_on c.loop-map.left (c.loop-map.left - 1) c.args.t.now.nodes c.args.space.now c.loop-map.at c.loop-map.carried.items c.as_slice.result.now c.in-Some.map.now b _
+    more c.in-Some.ensures c.as_slice.ensures.value bad c.loop-map.invariant.0)
+    c.in-Err.ensures.stop
 
 pub loop-map-preserved : goal.loop-map-preserved
 loop-map-preserved c =

@@ -24,7 +24,7 @@ pub returns-in-Err-parent_cells-clause-stop : goal.returns-in-Err-parent_cells-c
 returns-in-Err-parent_cells-clause-stop c = stop_on (parent_cells c.in-Ok.lead.width (cells_of c.next.new.self))
     (taken c.args.child.now (rows_left c.args.t.now.nodes c.args.space.now (length c.args.child.now) c.args.cells.now)) c.in-Err-parent_cells.stop
     (λ r short. no_parent c.args.t.now.nodes c.args.space.now c.args.child.now c.args.cells.now c.begin_with-is_same.new.cells c.next.new.self
-      c.in-Some.phandle c.in-Ok.lead r c.requires c.begin_with-is_same.ensures.rest c.in-Some.ensures.cells c.in-Ok.ensures.place short)
+    c.in-Some.phandle c.in-Ok.lead r c.requires c.begin_with-is_same.ensures.rest c.in-Some.ensures.cells c.in-Ok.ensures.place short)
     c.in-Err-parent_cells.ensures.stop
 
 pub returns-then-skip-clause-row : goal.returns-then-skip-clause-row
