@@ -7,7 +7,7 @@ use Rattle.edt_base.specs.NodeData.{NodeData}
 use Rattle.edt_base.specs.declared.fault.Rule.{Rule}
 use Rattle.edt_base.specs.declared.fault.Rule.TheVariants as rule
 use Rattle.edt_base.specs.declared.node.Part.{Part}
-use Rattle.pha_nexus.specs.Chain.{AreFitting, Breaks, Ends, IsBrokenAt, IsChain, IsFirst, IsOther, IsTaken, followed, followed_within, in_row, most_rows, no_row, on_the_way, onward, too_far, unfit}
+use Rattle.pha_nexus.specs.Chain.{AreFitting, Breaks, Ends, IsBrokenAt, IsChain, IsFirst, IsOther, IsTaken, followed, followed_within, in_row, no_row, on_the_way, onward, too_far, unfit}
 use Rattle.pha_nexus.specs.Passing.{Hop, hop_by, is_as_long, masked, passed_at, sent}
 use Rattle.pha_nexus.specs.Rows.{Row, are_same, rows_of, taken}
 use Rattle.pha_nexus.specs.Space.{map_at, mask_at, pass_at}

@@ -1,5 +1,5 @@
 -- A specifier on its way, a row at a time.
-use Rattle.std.proofs.Common.{◌≡◌, ◌∙◌, ◌+◌, ◌-◌, ◌<◌, ℕ, zero, suc, List, Option, Some, None, Result, Ok, Err, refl, sym, ap, subst, arith}
+use Rattle.std.proofs.Common.{◌≡◌, ◌∙◌, ℕ, zero, suc, List, Option, Some, None, Result, Ok, Err, sym, ap, subst, arith}
 use Rattle.std.specs.Option.{option_map_or}
 use Rattle.edt_base.specs.NodeData.{NodeData}
 use Rattle.edt_base.specs.declared.fault.Rule.{Rule}

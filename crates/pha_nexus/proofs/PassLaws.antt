@@ -1,14 +1,13 @@
 -- Masks and pass-throughs, a cell at a time.
-use Rattle.std.proofs.Common.{◌≡◌, ◌∙◌, ◌+◌, ◌-◌, ◌*◌, ◌<◌, ◌≤◌, ◌++◌, ◌∷◌, [], ◌&&◌, ℕ, zero, suc, Bool, true, false, List, Option, Some, None, Result, Ok, Err, bit_and, length, take, drop, nat_eq, refl, sym, ap, subst, arith, append_assoc, if◌then◌else◌}
+use Rattle.std.proofs.Common.{◌≡◌, ◌∙◌, ◌-◌, ◌*◌, ◌<◌, ◌≤◌, ◌++◌, ◌∷◌, [], ◌&&◌, ℕ, zero, suc, Bool, true, false, List, Option, Some, None, Result, Ok, Err, length, take, drop, refl, sym, ap, subst, arith, if◌then◌else◌}
 use Rattle.std.proofs.lemmas.Bool.Decides.{nat_tests}
-use Rattle.std.proofs.lemmas.List.{append-nil}
 use Rattle.edt_base.specs.Cells.{cells_of}
 use Rattle.edt_base.specs.NodeData.{NodeData, bytes_of}
 use Rattle.edt_base.specs.Values.{value_cells}
 use Rattle.edt_base.specs.declared.fault.Rule.{Rule}
 use Rattle.edt_base.specs.declared.fault.Rule.TheVariants as rule
 use Rattle.edt_base.specs.declared.node.Part.{Part}
-use Rattle.pha_nexus.specs.Passing.{Hop, aligned, blended, chosen_bits, hop_by, is_as_long, last_of, masked, passed, sent, shared_bits}
+use Rattle.pha_nexus.specs.Passing.{Hop, aligned, blended, hop_by, is_as_long, masked, passed, sent, shared_bits}
 use Rattle.pha_nexus.specs.Rows.{Row, rows_of, taken}
 use Rattle.edt_base.specs.Refusals.{IsStop}
 use Rattle.edt_base.specs.declared.stop.Stop.{Stop}

@@ -1,5 +1,5 @@
 -- Rows, read one at a time.
-use Rattle.std.proofs.Common.{◌≡◌, ◌∙◌, ◌+◌, ◌-◌, ◌*◌, ◌%◌, ◌<◌, ◌≤◌, ◌∷◌, [], ℕ, zero, suc, Bool, true, false, List, Option, Result, Ok, Err, length, take, drop, nat_lt, nat_eq, position, refl, sym, ap, subst, arith, length-drop, if◌then◌else◌}
+use Rattle.std.proofs.Common.{◌≡◌, ◌∙◌, ◌+◌, ◌-◌, ◌*◌, ◌%◌, ◌<◌, ◌≤◌, ◌∷◌, [], ℕ, zero, suc, Bool, true, false, List, Result, Ok, Err, length, take, drop, nat_lt, position, refl, sym, ap, subst, arith, length-drop, if◌then◌else◌}
 use Rattle.std.proofs.Math.Nat.{add-mul-mod_self_left}
 use Rattle.std.proofs.lemmas.Bool.Decides.{nat_tests}
 use Rattle.std.proofs.lemmas.List.{drop-drop, length-take-le}

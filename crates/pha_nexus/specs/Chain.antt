@@ -1,5 +1,5 @@
 -- The chain of rows along which a specifier is followed from nexus node to nexus node.
-use Rattle.std.specs.Prelude.{◌≡◌, ◌<◌, ◌+◌, ◌++◌, ℕ, zero, suc, true, List, [], ◌∷◌, Option, Some, None, Result, Ok, Err, All, length}
+use Rattle.std.specs.Prelude.{◌≡◌, ◌<◌, ◌+◌, ◌++◌, ℕ, zero, suc, true, List, [], ◌∷◌, Some, None, Result, Ok, Err, All, length}
 use Rattle.std.specs.Option.{option_map_or}
 use Rattle.edt_base.specs.NodeData.{NodeData}
 use Rattle.edt_base.specs.declared.fault.Rule.{Rule}
@@ -13,7 +13,8 @@ use Rattle.pha_nexus.specs.Space.{map_at, mask_at, pass_at}
 abbrev pub most_rows : ℕ
 most_rows = 16
 
--- What follows is told twice: as lists of rows, and as a function for those who go on with its answer.
+-- What follows is told twice: as lists of rows, and as a function for those who go on with its answer. That both tell
+-- the same is the law `specifiers_are_followed_along_chains`.
 
 -- Lists of rows
 
@@ -49,15 +50,17 @@ IsChain nodes space at spec (row ∷ rows) last end = IsTaken nodes space at spe
     × IsChain nodes space row.node (sent spec (pass_at nodes space at) row.parent) rows last end
 
 -- a specifier at a start ends as another at the last node, which has no map
-pub record Ends (nodes : List NodeData) (space : List ℕ) (start : ℕ) (spec : List ℕ) (last : ℕ) (end : List ℕ) : Type 0 where
+pub record Ends (nodes : List NodeData) (space : List ℕ) (start : ℕ) (spec : List ℕ) (last : ℕ) (end : List ℕ)
+    : Type 0 where
   pub rows : List Row
   pub few : length rows < most_rows + 1
   pub chain : IsChain nodes space start spec rows last end
   pub no_map : map_at nodes space last ≡ None
 
--- this rule is the first that is broken at the map of a node, before a row is taken: a mask or a pass-through doesn't fit,
--- a row is at fault, or all rows are for other cells
-pub data IsBrokenAt (nodes : List NodeData) (space : List ℕ) (at : ℕ) (spec : List ℕ) (map : List Part) : Rule → Type 0 where
+-- this rule is the first that is broken at the map of a node, before a row is taken: a mask or a pass-through doesn't
+-- fit, a row is at fault, or all rows are for other cells
+pub data IsBrokenAt (nodes : List NodeData) (space : List ℕ) (at : ℕ) (spec : List ℕ) (map : List Part)
+    : Rule → Type 0 where
   unfit : (AreFitting nodes space at spec → ⊥) → IsBrokenAt nodes space at spec map rule.V28
   in_row : (broken : Rule) → AreFitting nodes space at spec
       → IsFirst (masked spec (mask_at nodes space at)) (rows_of nodes space (length spec) map) (Err broken)
@@ -66,7 +69,8 @@ pub data IsBrokenAt (nodes : List NodeData) (space : List ℕ) (at : ℕ) (spec 
       → All (IsOther (masked spec (mask_at nodes space at))) (rows_of nodes space (length spec) map)
       → IsBrokenAt nodes space at spec map rule.V27
 
--- a specifier at a start comes to a map at which this rule is broken, or to one more when as many rows are taken as may be
+-- a specifier at a start comes to a map at which this rule is broken, or to one more when as many rows are taken as
+-- may be
 pub data Breaks (nodes : List NodeData) (space : List ℕ) (start : ℕ) (spec : List ℕ) : Rule → Type 0 where
   on_the_way : (rows : List Row) (last : ℕ) (end : List ℕ) (map : List Part) (broken : Rule) → length rows < most_rows
       → IsChain nodes space start spec rows last end → map_at nodes space last ≡ Some map

@@ -1,6 +1,6 @@
--- How a specifier passes a nexus node: its mask, the row that is taken, its pass-through (Devicetree Specification v0.4,
--- 2.5.1).
-use Rattle.std.specs.Prelude.{◌+◌, ◌-◌, ◌*◌, ◌^◌, ◌++◌, ◌&&◌, ℕ, Bool, true, List, [], ◌∷◌, Option, Some, None, Result, Ok, Err, bit_and, bit_or, drop, length, nat_eq, take, if◌then◌else◌}
+-- How a specifier passes a nexus node: its mask, the row that is taken, its pass-through (Devicetree Specification
+-- v0.4, 2.5.1).
+use Rattle.std.specs.Prelude.{◌-◌, ◌*◌, ◌^◌, ◌++◌, ◌&&◌, ℕ, Bool, true, List, [], ◌∷◌, Option, Some, None, Result, Ok, Err, bit_and, bit_or, drop, length, nat_eq, take, if◌then◌else◌}
 use Rattle.edt_base.specs.NodeData.{NodeData, bytes_of}
 use Rattle.edt_base.specs.Values.{value_cells}
 use Rattle.edt_base.specs.declared.fault.Rule.{Rule}
@@ -64,7 +64,8 @@ hop_by spec pass (Err broken) = Err broken
 hop_by spec pass (Ok row) = Ok (record { node = row.node; spec = sent spec pass row.parent })
 
 -- through a map, a mask and a pass-through; V28 where one of the two is of another length than the specifier
-abbrev pub passed : List NodeData → List ℕ → List ℕ → List Part → Option (List Part) → Option (List Part) → Result Hop Rule
+abbrev pub passed : List NodeData → List ℕ → List ℕ → List Part → Option (List Part) → Option (List Part)
+    → Result Hop Rule
 passed nodes space spec map mask pass = if is_as_long spec mask && is_as_long spec pass
     then hop_by spec pass (taken (masked spec mask) (rows_of nodes space (length spec) map))
     else Err rule.V28

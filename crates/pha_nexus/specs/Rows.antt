@@ -35,11 +35,12 @@ whole_row child behind (Ok lead) = if nat_lt (length behind) lead.width then Err
 -- the row of these child cells, from its phandle on
 abbrev pub row_from : List NodeData → List ℕ → List ℕ → List ℕ → Result Row Rule
 row_from nodes space child [] = Err rule.V26
-row_from nodes space child (phandle ∷ behind) = whole_row child behind (lead_to nodes space (position (has_phandle phandle) nodes))
+row_from nodes space child (phandle ∷ behind) =
+    whole_row child behind (lead_to nodes space (position (has_phandle phandle) nodes))
 
--- the row with which cells begin: so many child cells, a phandle, and as many parent cells as its node says. Or the first
--- rule that the row breaks: V26 where the child cells or the phandle aren't there, V20 where no node has the phandle, V21 or
--- V32 where the node doesn't say how many parent cells there are, V26 where these aren't there
+-- the row with which cells begin: so many child cells, a phandle, and as many parent cells as its node says. Or the
+-- first rule that the row breaks: V26 where the child cells or the phandle aren't there, V20 where no node has the
+-- phandle, V21 or V32 where the node doesn't say how many parent cells there are, V26 where these aren't there
 abbrev pub first_row : List NodeData → List ℕ → ℕ → List ℕ → Result Row Rule
 first_row nodes space width cells = row_from nodes space (take width cells) (drop width cells)
 
@@ -71,8 +72,8 @@ rows_of nodes space width map = rows_after nodes space width (has_rest (length (
 abbrev pub are_same : List ℕ → List ℕ → Bool
 are_same = pointwise nat_eq
 
--- the first row whose child cells are these. Or the first rule that is broken before one is met: that of a row at fault, or
--- V27 where the rows end
+-- the first row whose child cells are these. Or the first rule that is broken before one is met: that of a row at
+-- fault, or V27 where the rows end
 abbrev pub taken : List ℕ → List (Result Row Rule) → Result Row Rule
 taken cells [] = Err rule.V27
 taken cells (Err broken ∷ rows) = Err broken

@@ -45,7 +45,8 @@ count_at nodes id name = option_and_then single_cell (prop_at nodes id name)
 
 -- Parent cells of a map's row
 
--- as many as the node's count says; an interrupt's begin with an address, of no cells where the node has no count of them
+-- as many as the node's count says; an interrupt's begin with an address, of no cells where the node has no count of
+-- them
 abbrev pub width_by : Bool → Option ℕ → Option ℕ → Result ℕ Rule
 width_by false address None = Err rule.V21
 width_by true address None = Err rule.V32

@@ -39,8 +39,8 @@ pub(crate) fn taken_row(
     child: &[u32],
     map: &[Part],
 ) -> Result<Exit, Stop>
-    ensures row { IfOk result (λ e. taken child.now (rows_of t.now.nodes space.now (length child.now)
-        map.now) ≡ Ok (record { child = child.now; node = e.node; parent = e.parent.items })) }
+    ensures row { IfOk result (λ e. taken child.now (rows_of t.now.nodes space.now
+        (length child.now) map.now) ≡ Ok (record { child = child.now; node = e.node; parent = e.parent.items })) }
     ensures there { IfOk result (λ e. e.node < length t.now.nodes) }
     ensures stop { IfErr result (IsStop (taken child.now (rows_of t.now.nodes space.now
         (length child.now) map.now))) }

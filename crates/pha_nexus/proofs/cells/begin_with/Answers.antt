@@ -1,4 +1,4 @@
-use Rattle.std.proofs.Common.{◌≡◌, ◌*◌, ◌&&◌, Bool, ap, subst, nat_eq, length, take}
+use Rattle.std.proofs.Common.{◌≡◌, ◌&&◌, Bool, subst, nat_eq, length, take}
 use Rattle.edt_base.specs.Cells.{cells_of}
 use Rattle.pha_nexus.specs.Rows.{are_same}
 use Rattle.pha_nexus.proofs.CellLaws.{same_next, same_off, bytes_next}

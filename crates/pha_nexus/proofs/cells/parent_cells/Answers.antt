@@ -1,4 +1,4 @@
-use Rattle.std.proofs.Common.{◌≡◌, ◌∙◌, ◌+◌, ◌++◌, ◌∷◌, [], ℕ, List, suc, sym, ap, arith}
+use Rattle.std.proofs.Common.{◌∙◌, ◌+◌, ◌++◌, ◌∷◌, [], ℕ, List, sym, ap, arith}
 use Rattle.edt_base.specs.Cells.{cells_of}
 use Rattle.pha_nexus.proofs.CellLaws.{cut_next}
 use Rattle.pha_nexus.proofs.cells.parent_cells.Goals as goal

@@ -1,4 +1,4 @@
-use Rattle.std.proofs.Common.{◌≡◌, ◌∙◌, ◌+◌, ◌*◌, suc, sym, arith}
+use Rattle.std.proofs.Common.{◌∙◌, ◌+◌, ◌*◌, sym, arith}
 use Rattle.edt_base.specs.Cells.{cells_of}
 use Rattle.pha_nexus.proofs.CellLaws.{cut_next, bytes_on}
 use Rattle.pha_nexus.proofs.cells.skip.Goals as goal

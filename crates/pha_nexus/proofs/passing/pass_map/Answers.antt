@@ -1,4 +1,4 @@
-use Rattle.std.proofs.Common.{◌≡◌, ◌∙◌, sym}
+use Rattle.std.proofs.Common.{◌∙◌, sym}
 use Rattle.pha_nexus.proofs.PassLaws.{passed_on, passed_stop}
 use Rattle.pha_nexus.proofs.passing.pass_map.Goals as goal
 

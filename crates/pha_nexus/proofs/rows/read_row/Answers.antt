@@ -1,4 +1,4 @@
-use Rattle.std.proofs.Common.{◌≡◌, length}
+use Rattle.std.proofs.Common.{length}
 use Rattle.edt_base.specs.Cells.{cells_of}
 use Rattle.pha_nexus.specs.Inner.Reading.{parent_cells, rows_left}
 use Rattle.pha_nexus.specs.Rows.{taken}
