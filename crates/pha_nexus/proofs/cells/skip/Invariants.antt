@@ -1,0 +1,7 @@
+use Rattle.std.proofs.Common.{◌≡◌, ◌*◌, ◌≤◌, drop, length}
+use Rattle.edt_base.specs.Cells.{cells_of}
+use Rattle.pha_nexus.proofs.cells.skip.Given as goal
+
+abbrev pub invariant-loop : goal.invariant-loop
+invariant-loop l = (l.cells ≡ drop (4 * l.counter) l.initial.cells)
+    × (cells_of l.cells ≡ drop l.counter (cells_of l.initial.cells)) × (l.counter ≤ length (cells_of l.initial.cells))

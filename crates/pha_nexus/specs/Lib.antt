@@ -1,0 +1,5 @@
+pub mod Chain
+pub mod Inner
+pub mod Passing
+pub mod Rows
+pub mod Space
