@@ -1,7 +1,15 @@
 pub mod AddedLevels
+pub mod Agreeing
 pub mod Clashing
+pub mod Covered
+pub mod Disagreeing
+pub mod Halving
+pub mod JoinSteps
 pub mod Joined
 pub mod JoinedLevels
 pub mod JoinedLists
+pub mod LevelClashes
+pub mod Looked
+pub mod Sorting
 pub mod United
 pub mod Walking

@@ -1,6 +1,26 @@
 //! Binding files with their includes, merged (Zephyr 3.7, "Devicetree bindings syntax").
 #![tactic(auto)]
 
+mod checks;
+mod entries;
+mod entry;
 mod laws;
+mod level;
+mod library;
+mod lookup;
+mod names;
+mod own;
+mod reading;
+mod resolve;
+mod same;
+mod shared;
+mod strings;
+mod table;
+#[cfg(test)]
+mod tests;
+mod view;
+mod walk;
 
 pub use laws::{merges_once, met_again, walks_once};
+pub use library::Library;
+pub use view::{PropView, View};
