@@ -9,6 +9,7 @@ pub mod Facts
 pub mod Files
 pub mod Filtering
 pub mod Holdings
+pub mod Inner
 pub mod Joining
 pub mod Laws
 pub mod Levels

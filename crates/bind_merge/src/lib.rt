@@ -8,6 +8,7 @@ mod laws;
 mod level;
 mod library;
 mod lookup;
+mod merging;
 mod names;
 mod own;
 mod reading;

@@ -1,8 +1,12 @@
 //! The listed files by their base names.
 
+ghost use Rattle.std.specs.Prelude.{◌≡◌};
+ghost use Rattle.bind_merge.specs.Inner.Resolving.{named_in};
+
 use edt_base::{Bytes, FileNo, Text};
 use std::alloc::{AllocError, Global};
 use std::collections::BTreeMap;
+use std::marker::Model;
 
 /// The files of one base name.
 #[derive(Clone, Copy, Debug, PartialEq, Eq)]
@@ -15,6 +19,14 @@ pub(crate) enum Named {
 #[derive(Debug, Drop)]
 pub(crate) struct Names {
     files: BTreeMap<Text, Named>,
+}
+
+impl Model for Names {
+    ghost use Rattle.bind_merge.specs.Inner.Resolving.{NameData};
+
+    ghost Value = { NameData };
+
+    ghost view = { λ n. n.files.entries };
 }
 
 // What stands after the last `/` of a name.
@@ -43,7 +55,9 @@ impl Names {
     }
 
     /// The files of a base name; None exactly where there is none.
-    pub(crate) fn get(&self, base: &Text) -> Option<Named> {
+    pub(crate) fn get(&self, base: &Text) -> Option<Named>
+        ensures { result ≡ named_in self.now base.now }
+    {
         self.files.get(base).copied()
     }
 }

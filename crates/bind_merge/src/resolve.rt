@@ -1,24 +1,14 @@
 //! Resolves each reached file once, the ones without includes first.
 
+use crate::merging::{Resolved, merged};
 use crate::names::{Named, Names};
 use crate::own::OwnLevel;
 use crate::reading::{Read, read_file};
-use crate::level::Level;
-use crate::table::{include, own_tables};
 use edt_base::{Bytes, FileNo, Text};
 use std::alloc::{AllocError, Global};
 
 /// How many includes may follow below one another.
 pub(crate) const DEEPEST: u32 = 16;
-
-/// A file that is without fault, with what it includes.
-#[derive(Debug, Drop)]
-pub(crate) struct Resolved {
-    /// How many includes follow below one another at most.
-    pub(crate) height: u32,
-    /// Its merged levels; None where it, or a file that it includes at any depth, is in conflict.
-    pub(crate) levels: Option<Vec<Level>>,
-}
 
 /// An absent value for each file.
 pub(crate) fn none_each<T: Drop>(alloc: Global, count: usize) -> Result<Vec<Option<T>>, AllocError> {
@@ -145,49 +135,4 @@ fn has_height(
         }
     }
     true
-}
-
-// The merged levels of a record whose includes are resolved; None exactly where there is a conflict.
-fn merged(
-    alloc: Global,
-    names: &Names,
-    own: &[OwnLevel],
-    resolved: &[Option<Resolved>],
-) -> Result<Option<Vec<Level>>, AllocError> {
-    let Some(mut levels) = own_tables(alloc, own)? else {
-        return Ok(None);
-    };
-    for (at, level) in own.iter().enumerate() {
-        if !merge_includes(alloc, names, at, level, resolved, &mut levels)? {
-            return Ok(None);
-        }
-    }
-    Ok(Some(levels))
-}
-
-// Adds what the includes of a level bring to that level and those below.
-fn merge_includes(
-    alloc: Global,
-    names: &Names,
-    at: usize,
-    level: &OwnLevel,
-    resolved: &[Option<Resolved>],
-    levels: &mut Vec<Level>,
-) -> Result<bool, AllocError> {
-    for included in level.includes.iter() {
-        let Some(Named::One(file)) = names.get(&included.name) else {
-            return Ok(false);
-        };
-        let Some(Resolved {
-            levels: Some(below),
-            ..
-        }) = &resolved[file.0 as usize]
-        else {
-            return Ok(false);
-        };
-        if !include(alloc, levels, at, below.as_slice(), &included.filter)? {
-            return Ok(false);
-        }
-    }
-    Ok(true)
 }

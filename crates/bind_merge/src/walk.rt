@@ -3,7 +3,8 @@
 use crate::names::{Named, Names};
 use crate::own::OwnLevel;
 use crate::reading::Read;
-use crate::resolve::{DEEPEST, Resolved};
+use crate::merging::Resolved;
+use crate::resolve::DEEPEST;
 use edt_base::{Bytes, Fault, FileNo, Place, Rule, Text};
 use std::alloc::{AllocError, Global};
 
