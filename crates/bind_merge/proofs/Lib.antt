@@ -1,5 +1,6 @@
 pub mod AddedLevels
 pub mod Agreeing
+pub mod Bringing
 pub mod Clashing
 pub mod Covered
 pub mod Disagreeing
@@ -10,6 +11,8 @@ pub mod JoinedLevels
 pub mod JoinedLists
 pub mod LevelClashes
 pub mod Looked
+pub mod Merging
 pub mod Sorting
+pub mod Typed
 pub mod United
 pub mod Walking

@@ -1,8 +1,8 @@
 -- What the answers of joining and sorting say: the list, or that two values of one key came together.
-use Rattle.std.specs.Prelude.{Bool, true, false, List, Option, Some, None}
-use Rattle.bind_merge.specs.Levels.{EntryData, LevelTable}
+use Rattle.std.specs.Prelude.{◌⊎◌, Bool, true, false, List, [], ◌∷◌, Option, Some, None}
+use Rattle.bind_merge.specs.Levels.{EntryData, LevelTable, OwnData}
 use Rattle.bind_merge.specs.Joining.{Agree, Disagree, Joins, ClashIn, JoinsLevel, ClashOf}
-use Rattle.bind_merge.specs.Adding.{IsSortedOf, IsTableOf}
+use Rattle.bind_merge.specs.Adding.{IsSortedOf, IsTableOf, AreTablesOf}
 
 abbrev pub AgreesIf : Bool → EntryData → EntryData → Type 0
 AgreesIf true a b = Agree a b
@@ -23,3 +23,12 @@ LevelOr a b None = ClashOf a b
 abbrev pub TableOr : LevelTable → Option LevelTable → Type 0
 TableOr own (Some t) = IsTableOf own t
 TableOr own None = ClashOf own own
+
+-- one of these levels says two values of one key
+abbrev pub ClashAmong : List OwnData → Type 0
+ClashAmong [] = ⊥
+ClashAmong (l ∷ ls) = ClashOf l.table l.table ⊎ ClashAmong ls
+
+abbrev pub TablesOr : List OwnData → Option (List LevelTable) → Type 0
+TablesOr own (Some ts) = AreTablesOf own ts
+TablesOr own None = ClashAmong own

@@ -23,4 +23,5 @@ pub mod Ordered
 pub mod Passing
 pub mod Same
 pub mod Uniting
+pub mod ViewData
 pub mod Walks

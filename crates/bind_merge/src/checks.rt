@@ -1,5 +1,12 @@
 //! The rules that the merged binding itself is tested for.
 
+ghost use Rattle.std.specs.Prelude.{◌≡◌};
+ghost use Rattle.std.specs.List.{list_all};
+ghost use Rattle.edt_base.specs.YamlData.{value_of};
+ghost use Rattle.bind_merge.specs.Checks.{fits, fits_where, is_byte, is_cell, is_described, is_list_of, is_text, merged_rule, prop_rule};
+ghost use Rattle.bind_merge.specs.Options.{first_some};
+ghost use Rattle.bind_merge.specs.Inner.Items.{is_item};
+
 use crate::entry::{Entry, Settings};
 use crate::level::Level;
 use crate::shared::SharedValue;
@@ -7,7 +14,9 @@ use edt_base::{PropType, Rule, Yaml};
 
 /// The first rule that a merged binding breaks: B3 where its top has no description, then B5 to B8 of
 /// its properties, by level from the top and in byte order. None exactly where it breaks none.
-pub(crate) fn merged_rule(levels: &[Level]) -> Option<Rule> {
+pub(crate) fn merged_rule(levels: &[Level]) -> Option<Rule>
+    ensures { result ≡ merged_rule levels.now }
+{
     if !is_described(levels) {
         return Some(Rule::B3);
     }
@@ -20,7 +29,9 @@ pub(crate) fn merged_rule(levels: &[Level]) -> Option<Rule> {
 }
 
 // The top has a description.
-fn is_described(levels: &[Level]) -> bool {
+fn is_described(levels: &[Level]) -> bool
+    ensures { result ≡ is_described levels.now }
+{
     match levels.first() {
         Some(top) => top.described,
         None => false,
@@ -28,7 +39,9 @@ fn is_described(levels: &[Level]) -> bool {
 }
 
 // The first rule that the properties of a level break.
-fn props_rule(props: &[Entry]) -> Option<Rule> {
+fn props_rule(props: &[Entry]) -> Option<Rule>
+    ensures { result ≡ first_some prop_rule props.now }
+{
     for prop in props {
         if let Some(rule) = prop_rule(prop.settings()) {
             return Some(rule);
@@ -38,7 +51,9 @@ fn props_rule(props: &[Entry]) -> Option<Rule> {
 }
 
 // The first rule that a property breaks.
-fn prop_rule(prop: &Settings) -> Option<Rule> {
+fn prop_rule(prop: &Settings) -> Option<Rule>
+    ensures { result ≡ prop_rule prop.now }
+{
     let Some(ty) = prop.ty else {
         return Some(Rule::B5);
     };
@@ -57,7 +72,9 @@ fn prop_rule(prop: &Settings) -> Option<Rule> {
 }
 
 // A value, where there is one, fits the type.
-fn fits_where(ty: PropType, value: &Option<SharedValue>) -> bool {
+fn fits_where(ty: PropType, value: &Option<SharedValue>) -> bool
+    ensures { result ≡ fits_where ty value.now }
+{
     match value {
         Some(value) => fits(ty, value.get()),
         None => true,
@@ -65,7 +82,9 @@ fn fits_where(ty: PropType, value: &Option<SharedValue>) -> bool {
 }
 
 // A value that a `const` or a `default` of this type may have.
-fn fits(ty: PropType, value: &Yaml) -> bool {
+fn fits(ty: PropType, value: &Yaml) -> bool
+    ensures { result ≡ fits ty (value_of value.now) }
+{
     match ty {
         PropType::Int => is_cell(value),
         PropType::Array => is_list_of(value, Item::Cell),
@@ -84,7 +103,9 @@ enum Item {
     Text,
 }
 
-fn is_list_of(value: &Yaml, item: Item) -> bool {
+fn is_list_of(value: &Yaml, item: Item) -> bool
+    ensures { result ≡ is_list_of (is_item item) (value_of value.now) }
+{
     let Yaml::List(items) = value else {
         return false
     };
@@ -96,7 +117,9 @@ fn is_list_of(value: &Yaml, item: Item) -> bool {
     true
 }
 
-fn is_item(value: &Yaml, item: Item) -> bool {
+fn is_item(value: &Yaml, item: Item) -> bool
+    ensures { result ≡ is_item item (value_of value.now) }
+{
     match item {
         Item::Cell => is_cell(value),
         Item::Byte => is_byte(value),
@@ -105,15 +128,21 @@ fn is_item(value: &Yaml, item: Item) -> bool {
 }
 
 // A whole number from -2^31 to 2^32 - 1.
-fn is_cell(value: &Yaml) -> bool {
+fn is_cell(value: &Yaml) -> bool
+    ensures { result ≡ is_cell (value_of value.now) }
+{
     matches!(value, Yaml::Int(n) if -2147483648 <= *n && *n <= 4294967295)
 }
 
 // A whole number from 0 to 255.
-fn is_byte(value: &Yaml) -> bool {
+fn is_byte(value: &Yaml) -> bool
+    ensures { result ≡ is_byte (value_of value.now) }
+{
     matches!(value, Yaml::Int(n) if 0 <= *n && *n <= 255)
 }
 
-fn is_text(value: &Yaml) -> bool {
+fn is_text(value: &Yaml) -> bool
+    ensures { result ≡ is_text (value_of value.now) }
+{
     matches!(value, Yaml::Str(_))
 }

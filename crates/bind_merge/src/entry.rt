@@ -1,6 +1,7 @@
 //! What a binding says under one name: the settings of a property, or the names of a space's cells.
 
 ghost use Rattle.std.specs.Prelude.{◌≡◌, IfOk, Some, false};
+ghost use Rattle.std.specs.Option.{option_map};
 ghost use Rattle.bind_load.specs.RecordSeen.{prop_of};
 ghost use Rattle.bind_merge.specs.Levels.{prop_entry, space_entry};
 ghost use Rattle.bind_merge.specs.Covering.{covers, covers_all};
@@ -161,6 +162,18 @@ impl Settings {
             space: SharedText::again(&self.space)?,
             cells: SharedNames::again(&self.cells)?,
         })
+    }
+}
+
+impl Settings {
+    /// The names of a space's cells.
+    pub(crate) fn cells(&self) -> Option<&Vec<Text>>
+        ensures { option_map (λ v. v.now.items) result ≡ self.now.cells }
+    {
+        match &self.cells {
+            Some(shared) => Some(shared.get()),
+            None => None,
+        }
     }
 }
 

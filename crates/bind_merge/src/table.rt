@@ -1,8 +1,10 @@
 //! The merged levels of one file.
 
 ghost use Rattle.std.specs.Prelude.{◌≡◌, ◌≤◌, IfOk, length};
+ghost use Rattle.std.specs.Option.{option_map};
 ghost use Rattle.bind_load.specs.RecordSeen.{filter_of};
 ghost use Rattle.bind_merge.specs.Adding.{Comes, ComesAt, filter_below};
+ghost use Rattle.bind_merge.specs.Answering.{TablesOr};
 ghost use Rattle.bind_merge.specs.Filtering.{filters_of};
 
 use crate::level::Level;
@@ -15,7 +17,9 @@ use std::alloc::{AllocError, Global};
 pub(crate) fn own_tables(
     alloc: Global,
     own: &[OwnLevel],
-) -> Result<Option<Vec<Level>>, AllocError> {
+) -> Result<Option<Vec<Level>>, AllocError>
+    ensures { IfOk result (λ all. TablesOr own.now (option_map (λ v. v.items) all)) }
+{
     let mut levels = Vec::with_capacity(alloc, own.len())?;
     for level in own {
         match level.table(alloc)? {

@@ -1,5 +1,5 @@
 -- What is known while files are resolved: the listed files by their base names, and what was resolved.
-use Rattle.std.specs.Prelude.{◌≡◌, ◌+◌, ◌++◌, ℕ, Bool, false, List, [], ◌∷◌, Option, Some, None, Ok, is_some, map}
+use Rattle.std.specs.Prelude.{◌≡◌, ◌+◌, ◌++◌, ℕ, Bool, List, [], ◌∷◌, Option, Some, None, Ok, is_some, map}
 use Rattle.std.specs.List.{list_all, slice_get}
 use Rattle.std.specs.Map.{lookup}
 use Rattle.std.specs.Option.{option_and_then}
@@ -53,13 +53,18 @@ abbrev pub own_includes : ℕ → List OwnData → List (ℕ × IncludeData)
 own_includes m [] = []
 own_includes m (l ∷ ls) = at_level m l.includes ++ own_includes (m + 1) ls
 
--- an include leads to one file, which is resolved
-abbrev pub is_ready_as : List (Option ResolvedData) → Option Named → Bool
-is_ready_as resolved (Some (One k)) = is_some (resolved_at resolved k)
-is_ready_as resolved _ = false
+-- what was resolved of the one file that is named
+abbrev pub resolved_as : List (Option ResolvedData) → Option Named → Option ResolvedData
+resolved_as resolved (Some (One k)) = resolved_at resolved k
+resolved_as resolved _ = None
 
+-- what was resolved of the one file that an include names
+abbrev pub found_by : NameData → List (Option ResolvedData) → ℕ × IncludeData → Option ResolvedData
+found_by names resolved e = resolved_as resolved (named_in names e.1.name)
+
+-- an include names one file, which is resolved
 abbrev pub is_ready : NameData → List (Option ResolvedData) → ℕ × IncludeData → Bool
-is_ready names resolved e = is_ready_as resolved (named_in names e.1.name)
+is_ready names resolved e = is_some (found_by names resolved e)
 
 -- each include of a record does
 abbrev pub are_ready : NameData → List (Option ResolvedData) → List OwnData → Bool
