@@ -13,6 +13,7 @@ pub mod LevelClashes
 pub mod Looked
 pub mod Merging
 pub mod Sorting
+pub mod Telling
 pub mod Typed
 pub mod United
 pub mod Walking

@@ -1,6 +1,7 @@
 //! The laws on which resolving each file once rests.
 
 ghost use Rattle.bind_merge.specs.Laws.{MergesOnce, MetAgain, WalksOnce};
+ghost use Rattle.bind_merge.specs.Telling.{ViewsTell};
 
 /// A walk over a file and its includes, at most d of them below one another, meets no fault exactly
 /// where the file is without fault within the depth d: where its record is good and each include names
@@ -24,4 +25,11 @@ pub fn met_again()
 /// and child-bindings. Neither the file nor one that it includes at any depth is then in conflict.
 pub fn merges_once()
     ensures { MergesOnce }
+{}
+
+/// What a view tells of merged levels is what they say, fact by fact: each setting of a property or a
+/// space, the buses and the bus, and below them what the view of the child-binding tells.
+#[tactic(auto, using(crate::proofs::Telling::views_tell))]
+pub fn views_tell()
+    ensures { ViewsTell }
 {}

@@ -22,6 +22,6 @@ mod tests;
 mod view;
 mod walk;
 
-pub use laws::{merges_once, met_again, walks_once};
+pub use laws::{merges_once, met_again, views_tell, walks_once};
 pub use library::Library;
 pub use view::{PropView, View};

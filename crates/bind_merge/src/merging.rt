@@ -108,7 +108,8 @@ fn merge_include(
     let Some(below) = &found.levels else {
         return Ok(false);
     };
-    include(alloc, levels, at, below.as_slice(), &included.filter)
+    let comes = include(alloc, levels, at, below.as_slice(), &included.filter)?;
+    Ok(comes)
 }
 
 // What was resolved of the one file of a base name; None where no one file has it or isn't resolved.

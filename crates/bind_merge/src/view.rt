@@ -89,10 +89,11 @@ impl<'a> View<'a> {
     pub fn names(&self, alloc: Global) -> Result<Vec<&'a Text>, AllocError>
         ensures { IfOk result (λ names. map (λ n. n.now) names.items ≡ names_in self.now) }
     {
-        match self.levels.first() {
-            Some(top) => names_of(alloc, top.props.as_slice()),
-            None => Ok(Vec::new(alloc)),
-        }
+        let Some(top) = self.levels.first() else {
+            return Ok(Vec::new(alloc));
+        };
+        let names = names_of(alloc, top.props.as_slice())?;
+        Ok(names)
     }
 
     /// The property of this name; None exactly where the merged binding declares none. Takes no
