@@ -11,7 +11,7 @@ pub mod JoinedLevels
 pub mod JoinedLists
 pub mod LevelClashes
 pub mod Looked
-pub mod Merging
+pub mod MergedRecord
 pub mod Sorting
 pub mod Telling
 pub mod Typed
