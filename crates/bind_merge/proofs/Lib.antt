@@ -13,6 +13,7 @@ pub mod LevelClashes
 pub mod Looked
 pub mod MergedRecord
 pub mod Sorting
+pub mod TablesOf
 pub mod Telling
 pub mod Typed
 pub mod United
