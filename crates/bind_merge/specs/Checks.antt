@@ -50,11 +50,15 @@ abbrev pub is_yes : Option Bool → Bool
 is_yes (Some b) = b
 is_yes None = false
 
+-- a phandle-array whose space can't be told
+abbrev pub lacks_space : EntryData → PropType → Bool
+lacks_space e ty = is_phandle_array ty && (not (ends_with nat_eq e.name (codes "s")) && is_none e.space)
+
 -- the first rule that a property breaks: B5 without a type, B6 a phandle-array whose space can't be
 -- told, B7 a `const` or `default` that doesn't fit the type, B8 deprecated and required
 abbrev pub typed_rule : EntryData → PropType → Option Rule
 typed_rule e ty =
-    if is_phandle_array ty && not (ends_with nat_eq e.name (codes "s")) && is_none e.space then Some rule.B6 else
+    if lacks_space e ty then Some rule.B6 else
     if not (fits_where ty e.constant && fits_where ty e.default) then Some rule.B7 else
     if is_yes e.deprecated && is_yes e.required then Some rule.B8 else None
 

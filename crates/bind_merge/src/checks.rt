@@ -1,15 +1,15 @@
 //! The rules that the merged binding itself is tested for.
 
-ghost use Rattle.std.specs.Prelude.{◌≡◌};
-ghost use Rattle.std.specs.List.{list_all};
+ghost use Rattle.std.specs.Prelude.{◌≡◌, codes, nat_eq};
+ghost use Rattle.std.specs.List.{ends_with};
 ghost use Rattle.edt_base.specs.YamlData.{value_of};
-ghost use Rattle.bind_merge.specs.Checks.{fits, fits_where, is_byte, is_cell, is_described, is_list_of, is_text, merged_rule, prop_rule};
+ghost use Rattle.bind_merge.specs.Checks.{fits, fits_where, is_byte, is_cell, is_described, is_list_of, is_phandle_array, is_text, is_yes, lacks_space, merged_rule, prop_rule, typed_rule};
 ghost use Rattle.bind_merge.specs.Options.{first_some};
 ghost use Rattle.bind_merge.specs.Inner.Items.{is_item};
 
 use crate::entry::{Entry, Settings};
 use crate::level::Level;
-use crate::shared::SharedValue;
+use crate::shared::{SharedText, SharedValue};
 use edt_base::{PropType, Rule, Yaml};
 
 /// The first rule that a merged binding breaks: B3 where its top has no description, then B5 to B8 of
@@ -54,20 +54,53 @@ fn props_rule(props: &[Entry]) -> Option<Rule>
 fn prop_rule(prop: &Settings) -> Option<Rule>
     ensures { result ≡ prop_rule prop.now }
 {
-    let Some(ty) = prop.ty else {
-        return Some(Rule::B5);
-    };
-    if ty == PropType::PhandleArray
-        && !prop.name.get().as_str().ends_with('s')
-        && prop.space.is_none()
-    {
+    match prop.ty {
+        Some(ty) => typed_rule(prop, ty),
+        None => Some(Rule::B5),
+    }
+}
+
+// And where it has a type.
+fn typed_rule(prop: &Settings, ty: PropType) -> Option<Rule>
+    ensures { result ≡ typed_rule prop.now ty }
+{
+    if lacks_space(prop, ty) {
         Some(Rule::B6)
-    } else if !fits_where(ty, &prop.constant) || !fits_where(ty, &prop.default) {
+    } else if !(fits_where(ty, &prop.constant) && fits_where(ty, &prop.default)) {
         Some(Rule::B7)
-    } else if prop.deprecated == Some(true) && prop.required == Some(true) {
+    } else if is_yes(prop.deprecated) && is_yes(prop.required) {
         Some(Rule::B8)
     } else {
         None
+    }
+}
+
+// Its cells' space can't be told.
+fn lacks_space(prop: &Settings, ty: PropType) -> bool
+    ensures { result ≡ lacks_space prop.now ty }
+{
+    is_phandle_array(ty) && !ends_with_s(&prop.name) && prop.space.is_none()
+}
+
+fn is_phandle_array(ty: PropType) -> bool
+    ensures { result ≡ is_phandle_array ty }
+{
+    ty == PropType::PhandleArray
+}
+
+fn ends_with_s(name: &SharedText) -> bool
+    ensures { result ≡ ends_with nat_eq name.now (codes "s") }
+{
+    name.get().as_str().as_bytes().ends_with(b"s")
+}
+
+/// It is there, and true.
+pub(crate) fn is_yes(truth: Option<bool>) -> bool
+    ensures { result ≡ is_yes truth }
+{
+    match truth {
+        Some(truth) => truth,
+        None => false,
     }
 }
 

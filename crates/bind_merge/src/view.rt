@@ -8,6 +8,7 @@ ghost use Rattle.bind_merge.specs.Levels.{EntryData};
 ghost use Rattle.bind_merge.specs.Ordered.{IsInOrder};
 ghost use Rattle.bind_merge.specs.ViewData.{AreTyped, bus_in, buses_in, cells_in, child_in, names_in, prop_in};
 
+use crate::checks::is_yes;
 use crate::entry::{Entry, Settings};
 use crate::level::Level;
 use crate::lookup::look;
@@ -164,7 +165,7 @@ impl<'a> PropView<'a> {
         ensures { result ≡ is_yes self.now.required }
     {
         let settings = self.settings;
-        settings.required == Some(true)
+        is_yes(settings.required)
     }
 
     /// Its `default`; None exactly where it has none, and so of the calls below.
