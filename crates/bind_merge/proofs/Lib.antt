@@ -5,10 +5,12 @@ pub mod Clashing
 pub mod Covered
 pub mod Disagreeing
 pub mod Halving
+pub mod Included
 pub mod JoinSteps
 pub mod Joined
 pub mod JoinedLevels
 pub mod JoinedLists
+pub mod Kept
 pub mod LevelClashes
 pub mod Looked
 pub mod MergedRecord

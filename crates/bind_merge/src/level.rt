@@ -52,7 +52,8 @@ fn passed_props(
     ensures { IfOk result (λ v. v.items ≡ passed_props (top_filter (filters_of filter.entry)) props.now) }
 {
     let Some(filter) = filter else {
-        return inherited(alloc, props);
+        let all = inherited(alloc, props)?;
+        return Ok(all);
     };
     let allowed = kept(alloc, props, &filter.allow, true)?;
     let unblocked = kept(alloc, allowed.as_slice(), &filter.block, false)?;

@@ -83,6 +83,9 @@ pub(crate) fn kept(
 {
     match names {
         Some(names) => kept_by(alloc, entries, names.as_slice(), among),
-        None => share_all(alloc, entries),
+        None => {
+            let all = share_all(alloc, entries)?;
+            Ok(all)
+        }
     }
 }

@@ -85,13 +85,16 @@ fn push_levels(
         includes,
     })?;
     match child {
-        Some(child) => push_levels(alloc, levels, Box::into_inner(child)),
+        Some(child) => {
+            push_levels(alloc, levels, Box::into_inner(child))?;
+            Ok(())
+        }
         None => Ok(()),
     }
 }
 
 fn spaces(alloc: Global, cells: Vec<(Text, Vec<Text>)>) -> Result<Vec<Entry>, AllocError>
-    ensures { IfOk result (λ v. v.items ≡ map (λ c. space_entry (c.0, c.1.items)) cells.items) }
+    ensures { IfOk result (λ v. v.items ≡ map space_entry (map (λ e. (e.0, e.1.items)) cells.items)) }
 {
     let mut entries = Vec::with_capacity(alloc, cells.len())?;
     for (space, names) in cells {
@@ -101,7 +104,7 @@ fn spaces(alloc: Global, cells: Vec<(Text, Vec<Text>)>) -> Result<Vec<Entry>, Al
 }
 
 fn props(alloc: Global, specs: Vec<(Text, PropSpec)>) -> Result<Vec<Entry>, AllocError>
-    ensures { IfOk result (λ v. v.items ≡ map (λ p. prop_entry (prop_of p)) specs.items) }
+    ensures { IfOk result (λ v. v.items ≡ map prop_entry (map prop_of specs.items)) }
 {
     let mut entries = Vec::with_capacity(alloc, specs.len())?;
     for (name, spec) in specs {

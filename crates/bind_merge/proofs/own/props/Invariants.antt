@@ -7,4 +7,4 @@ use Rattle.bind_merge.proofs.own.props.Given as goal
 abbrev pub invariant-loop-name : goal.invariant-loop-name
 invariant-loop-name l =
     (goal.iterator-loop-name).can_next l.name-iterator × (goal.iterator-loop-name).is_finite l.name-iterator
-    × (l.entries.items ++ map (λ p. prop_entry (prop_of p)) (into_iter_items l.name-iterator) ≡ map (λ p. prop_entry (prop_of p)) l.fn.specs.items)
+    × (l.entries.items ++ map prop_entry (map prop_of (into_iter_items l.name-iterator)) ≡ map prop_entry (map prop_of l.fn.specs.items))
