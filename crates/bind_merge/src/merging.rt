@@ -6,14 +6,14 @@ ghost use Rattle.std.specs.Option.{option_map};
 ghost use Rattle.bind_load.specs.RecordSeen.{include_of};
 ghost use Rattle.bind_merge.specs.Files.{at_level};
 ghost use Rattle.bind_merge.specs.Inner.Bringing.{BringsIf, BringsAll};
-ghost use Rattle.bind_merge.specs.Inner.Resolving.{are_ready, is_ready, named_in, resolved_as, resolved_at, Merges};
+ghost use Rattle.bind_merge.specs.Inner.Resolving.{are_ready, is_ready, named_in, resolved_as, Merges};
 
 use crate::level::Level;
 use crate::names::{Named, Names};
 use crate::own::OwnLevel;
 use crate::table::{include, own_tables};
 use bind_load::Include;
-use edt_base::{FileNo, Text};
+use edt_base::Text;
 use std::alloc::{AllocError, Global};
 use std::marker::Model;
 
@@ -121,16 +121,7 @@ fn found_by<'a>(
     ensures { option_map (λ r. r.now) result ≡ resolved_as resolved.now (named_in names.now name.now) }
 {
     match names.get(name) {
-        Some(Named::One(file)) => resolved_at(resolved, file),
+        Some(Named::One(file)) => resolved.get(file as usize)?.as_ref(),
         _ => None,
-    }
-}
-
-fn resolved_at(resolved: &[Option<Resolved>], file: FileNo) -> Option<&Resolved>
-    ensures { option_map (λ r. r.now) result ≡ resolved_at resolved.now file }
-{
-    match resolved.get(file.0 as usize) {
-        Some(found) => found.as_ref(),
-        None => None,
     }
 }
