@@ -1,5 +1,6 @@
 pub mod AddedLevels
 pub mod Agreeing
+pub mod BaseNames
 pub mod Bringing
 pub mod Clashing
 pub mod Covered
@@ -12,8 +13,11 @@ pub mod JoinedLists
 pub mod LevelClashes
 pub mod Looked
 pub mod Merging
+pub mod NamedFiles
 pub mod Sorting
+pub mod Stringing
 pub mod Telling
 pub mod Typed
 pub mod United
 pub mod Walking
+pub mod Within

@@ -1,3 +1,5 @@
 pub mod Bringing
 pub mod Items
+pub mod Naming
 pub mod Resolving
+pub mod Stringing
