@@ -6,6 +6,7 @@ pub mod Clashing
 pub mod Covered
 pub mod Disagreeing
 pub mod Halving
+pub mod Heights
 pub mod JoinSteps
 pub mod Joined
 pub mod JoinedLevels
@@ -14,6 +15,7 @@ pub mod LevelClashes
 pub mod Looked
 pub mod Merging
 pub mod NamedFiles
+pub mod ReadAnswers
 pub mod Sorting
 pub mod Stringing
 pub mod Telling
