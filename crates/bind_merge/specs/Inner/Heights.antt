@@ -1,14 +1,14 @@
 -- What is known while files are resolved, those of the least height first. A file has a height where it
 -- is without fault: the least depth within which it is.
-use Rattle.std.specs.Prelude.{◌≡◌, ◌+◌, ◌<◌, ◌≤◌, ℕ, Bool, true, false, List, Option, Some, None, nat_lt}
+use Rattle.std.specs.Prelude.{◌≡◌, ◌+◌, ◌<◌, ◌≤◌, ℕ, Bool, true, false, List, [], ◌∷◌, Option, Some, None, nat_lt}
 use Rattle.std.specs.List.{list_all, slice_set}
 use Rattle.bind_load.specs.RecordData.{IncludeData}
 use Rattle.bind_merge.specs.Cleanness.{is_clean}
 use Rattle.bind_merge.specs.Files.{FileData}
 use Rattle.bind_merge.specs.Levels.{LevelTable, OwnData}
 use Rattle.bind_merge.specs.declared.reading.Read.{Read}
-use Rattle.bind_merge.specs.Inner.Reading.{is_read_at, own_at}
-use Rattle.bind_merge.specs.Inner.Resolving.{AreSettled, Merges, NameData, ResolvedData, named_in, resolved_as, resolved_at}
+use Rattle.bind_merge.specs.Inner.Reading.{AreRead, IsClosed, is_read_at, own_at}
+use Rattle.bind_merge.specs.Inner.Resolving.{AreNames, AreSettled, Merges, NameData, ResolvedData, named_in, resolved_as, resolved_at}
 
 abbrev pub is_below : ℕ → Option ResolvedData → Bool
 is_below h None = false
@@ -31,7 +31,7 @@ pub data Resolves (names : NameData) (reads : List (Option Read)) (h k : ℕ) (o
   too_high : (own : List OwnData) → own_at reads k ≡ Some own → all_low names old h own ≡ false
       → Resolves names reads h k old old
   at_once : (own : List OwnData) (levels : Option (List LevelTable)) → own_at reads k ≡ Some own
-      → all_low names old h own ≡ true → Merges names old own levels
+      → resolved_at old k ≡ None → all_low names old h own ≡ true → Merges names old own levels
       → Resolves names reads h k old (slice_set old k (Some (record { height = h; levels = levels })))
 
 -- a file is resolved, and its height is at most d
@@ -56,3 +56,17 @@ pub record AreResolved (files : List FileData) (reads : List (Option Read)) (h :
   pub sound : (k : ℕ) (r : ResolvedData) → resolved_at resolved k ≡ Some r
       → (r.height < h) × (is_clean files r.height k ≡ true)
   pub all : (k d : ℕ) → d < h → is_read_at reads k ≡ true → is_clean files d k ≡ true → IsLow resolved k d
+
+-- what was resolved holds of all files that the names and the reads are of
+abbrev pub AllResolved : NameData → List (Option Read) → ℕ → List (Option ResolvedData) → Type 0
+AllResolved names reads h resolved = (files : List FileData) → AreNames files names → AreRead files reads
+    → IsClosed names reads → AreResolved files reads h resolved
+
+abbrev pub AllResolvedTo : NameData → List (Option Read) → ℕ → ℕ → List (Option ResolvedData) → Type 0
+AllResolvedTo names reads h n resolved = (files : List FileData) → AreNames files names → AreRead files reads
+    → IsClosed names reads → AreResolvedTo files reads h n resolved
+
+-- nothing is there
+abbrev pub AreNone : {X : Type 0} → List (Option X) → Type 0
+AreNone [] = Unit {0}
+AreNone (x ∷ xs) = (x ≡ None) × AreNone xs
