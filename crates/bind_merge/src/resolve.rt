@@ -67,8 +67,8 @@ fn resolve_at(
     Ok(())
 }
 
-// The good record that was read of a file.
-fn own_at(reads: &[Option<Read>], at: usize) -> Option<&[OwnLevel]>
+/// The good record that was read of a file.
+pub(crate) fn own_at(reads: &[Option<Read>], at: usize) -> Option<&[OwnLevel]>
     ensures { option_map (λ own. own.now) result ≡ own_at reads.now at }
 {
     match reads.get(at)? {
