@@ -1,5 +1,5 @@
 -- The steps of bringing what includes have.
-use Rattle.std.proofs.Common.{◌≡◌, ◌⊎◌, ◌+◌, ◌≤◌, ◌<◌, ◌++◌, ◌&&◌, inl, inr, ◌∙◌, sym, ap, refl, subst, ℕ, zero, suc, Bool, true, false, List, [], ◌∷◌, Option, Some, None, length, map, drop, is_some, arith}
+use Rattle.std.proofs.Common.{◌≡◌, ◌⊎◌, ◌+◌, ◌≤◌, ◌<◌, ◌++◌, ◌&&◌, inl, inr, ◌∙◌, sym, ap, refl, subst, ℕ, zero, suc, Bool, true, false, List, [], ◌∷◌, Option, Some, None, length, map, drop, get_or, drop-cons, is_some, arith}
 use Rattle.std.specs.List.{list_all}
 use Rattle.bind_load.specs.RecordData.{IncludeData, FilterLevel}
 use Rattle.bind_merge.specs.Adding.{AddsAt, behind, onto, below, AddsFrom, no_more, one_more, Comes, AreTablesOf}
@@ -7,6 +7,7 @@ use Rattle.bind_merge.specs.Files.{at_level}
 use Rattle.bind_merge.specs.Levels.{LevelTable, OwnData}
 use Rattle.bind_merge.specs.Inner.Bringing.{Brings, IsSpoiled, Collides, BringsIf, BringsAll, ends, goes_on, stops}
 use Rattle.bind_merge.specs.Inner.Resolving.{NameData, ResolvedData, found_by, is_ready, own_includes}
+use Rattle.bind_merge.proofs.TablesOf.{own-at}
 
 -- ---- levels don't get fewer
 
@@ -81,3 +82,77 @@ module _ (names : NameData) (resolved : List (Option ResolvedData)) where
   append-false _ _ _ _ ys (ends ts) t = absurd cc
   append-false _ _ _ _ ys (goes_on b ts e us es ws x h) t = goes_on false ts e us (es ++ ys) ws x (append-false b us es ws ys h t)
   append-false _ _ _ _ ys (stops ts e es ws x) t = stops ts e (es ++ ys) ws x
+
+  -- what the includes that are left bring to what is there is what all bring
+  pub record Going (ts : List LevelTable) (es : List (ℕ × IncludeData)) (us : List LevelTable) (left : List (ℕ × IncludeData)) : Type 0 where
+    pub go : (b : Bool) (vs : List LevelTable) → BringsAll names resolved b us left vs → BringsAll names resolved b ts es vs
+
+  pub going-starts : (ts : List LevelTable) (es : List (ℕ × IncludeData)) → Going ts es ts es
+  going-starts ts es = record { go = λ b vs h. h }
+
+  plus-one : (k : ℕ) → suc k ≡ k + 1
+  plus-one k = omega arith
+
+  -- the includes of one level
+  module _ {A : Type 0} (f : A → IncludeData) where
+    item-at : (xs : List A) (k : ℕ) (z : A) → k < length xs → z ≡ get_or xs k z → drop k xs ≡ z ∷ drop (k + 1) xs
+    item-at xs k z h e =
+        subst (λ w. drop k xs ≡ w ∷ drop (k + 1) xs) (sym e)
+          (subst (λ m. drop k xs ≡ get_or xs k z ∷ drop m xs) (plus-one k) (drop-cons xs k z h))
+
+    module _ (m : ℕ) (xs : List A) (k : ℕ) (z : A) (l : k < length xs) (is : z ≡ get_or xs k z) where
+      pub includes-ready : list_all (is_ready names resolved) (at_level m (map f (drop k xs))) ≡ true
+          → (is_ready names resolved (m, f z) ≡ true) × (list_all (is_ready names resolved) (at_level m (map f (drop (k + 1) xs))) ≡ true)
+      includes-ready r =
+          let h : list_all (is_ready names resolved) ((m, f z) ∷ at_level m (map f (drop (k + 1) xs))) ≡ true =
+            subst (λ ys. list_all (is_ready names resolved) (at_level m (map f ys)) ≡ true) (item-at xs k z l is) r in
+          (all-first (is_ready names resolved) (m, f z) (at_level m (map f (drop (k + 1) xs))) h,
+          all-rest (is_ready names resolved) (m, f z) (at_level m (map f (drop (k + 1) xs))) h)
+
+      pub includes-next : (ts : List LevelTable) (es : List (ℕ × IncludeData)) (us ws : List LevelTable) → Going ts es us (at_level m (map f (drop k xs)))
+          → BringsIf names resolved true us (m, f z) ws → Going ts es ws (at_level m (map f (drop (k + 1) xs)))
+      includes-next ts es us ws g x =
+          let h : Going ts es us ((m, f z) ∷ at_level m (map f (drop (k + 1) xs))) =
+            subst (λ ys. Going ts es us (at_level m (map f ys))) (item-at xs k z l is) g in
+          record { go = λ b vs r. h.go b vs (goes_on b us (m, f z) ws (at_level m (map f (drop (k + 1) xs))) vs x r) }
+
+      pub includes-stop : (ts : List LevelTable) (es : List (ℕ × IncludeData)) (us vs : List LevelTable) → Going ts es us (at_level m (map f (drop k xs)))
+          → IsSpoiled names resolved (m, f z) ⊎ Collides names resolved us (m, f z) → BringsAll names resolved false ts es vs
+      includes-stop ts es us vs g x =
+          let h : Going ts es us ((m, f z) ∷ at_level m (map f (drop (k + 1) xs))) =
+            subst (λ ys. Going ts es us (at_level m (map f ys))) (item-at xs k z l is) g in
+          h.go false vs (stops us (m, f z) (at_level m (map f (drop (k + 1) xs))) vs x)
+
+    pub includes-end : (m : ℕ) (ys : List A) (ts : List LevelTable) (es : List (ℕ × IncludeData)) (us : List LevelTable) → ys ≡ []
+        → Going ts es us (at_level m (map f ys)) → BringsAll names resolved true ts es us
+    includes-end m ys ts es us e g =
+        let h : Going ts es us [] = subst (λ y. Going ts es us (at_level m (map f y))) e g in h.go true us (ends us)
+
+  -- the includes of all levels
+  module _ (own : List OwnData) (k : ℕ) (o : OwnData) (l : k < length own) (is : o ≡ get_or own k o) where
+    own-opened : own_includes k (drop k own) ≡ at_level k o.includes ++ own_includes (k + 1) (drop (k + 1) own)
+    own-opened = ap (λ xs. own_includes k xs) (own-at own k o l is)
+
+    pub own-ready : list_all (is_ready names resolved) (own_includes k (drop k own)) ≡ true
+        → (list_all (is_ready names resolved) (at_level k o.includes) ≡ true) × (list_all (is_ready names resolved) (own_includes (k + 1) (drop (k + 1) own)) ≡ true)
+    own-ready r =
+        let h : list_all (is_ready names resolved) (at_level k o.includes ++ own_includes (k + 1) (drop (k + 1) own)) ≡ true =
+          subst (λ xs. list_all (is_ready names resolved) xs ≡ true) own-opened r in
+        (all-front (is_ready names resolved) (at_level k o.includes) (own_includes (k + 1) (drop (k + 1) own)) h,
+        all-back (is_ready names resolved) (at_level k o.includes) (own_includes (k + 1) (drop (k + 1) own)) h)
+
+    pub own-next : (ts : List LevelTable) (es : List (ℕ × IncludeData)) (us ws : List LevelTable) → Going ts es us (own_includes k (drop k own))
+        → BringsAll names resolved true us (at_level k o.includes) ws → Going ts es ws (own_includes (k + 1) (drop (k + 1) own))
+    own-next ts es us ws g x =
+        let h : Going ts es us (at_level k o.includes ++ own_includes (k + 1) (drop (k + 1) own)) = subst (λ xs. Going ts es us xs) own-opened g in
+        record { go = λ b vs r. h.go b vs (append-true true b us (at_level k o.includes) ws (own_includes (k + 1) (drop (k + 1) own)) vs x refl r) }
+
+    pub own-stop : (ts : List LevelTable) (es : List (ℕ × IncludeData)) (us ws : List LevelTable) → Going ts es us (own_includes k (drop k own))
+        → BringsAll names resolved false us (at_level k o.includes) ws → BringsAll names resolved false ts es ws
+    own-stop ts es us ws g x =
+        let h : Going ts es us (at_level k o.includes ++ own_includes (k + 1) (drop (k + 1) own)) = subst (λ xs. Going ts es us xs) own-opened g in
+        h.go false ws (append-false false us (at_level k o.includes) ws (own_includes (k + 1) (drop (k + 1) own)) x refl)
+
+  pub own-end : (k : ℕ) (os : List OwnData) (ts : List LevelTable) (es : List (ℕ × IncludeData)) (us : List LevelTable) → os ≡ []
+      → Going ts es us (own_includes k os) → BringsAll names resolved true ts es us
+  own-end k os ts es us e g = let h : Going ts es us [] = subst (λ y. Going ts es us (own_includes k y)) e g in h.go true us (ends us)

@@ -13,11 +13,12 @@ pub mod JoinedLevels
 pub mod JoinedLists
 pub mod LevelClashes
 pub mod Looked
-pub mod Merging
+pub mod MergedRecord
 pub mod NamedFiles
 pub mod ReadAnswers
 pub mod Sorting
 pub mod Stringing
+pub mod TablesOf
 pub mod Telling
 pub mod Typed
 pub mod United

@@ -58,7 +58,7 @@ module _ (names : NameData) (resolved : List (Option ResolvedData)) (files : Lis
       record { file = h.0; names = h.1; at = h.2 }
 
   -- the merged levels of the files that were resolved
-  tables : ℕ → Option (List LevelTable)
+  abbrev tables : ℕ → Option (List LevelTable)
   tables t = option_and_then (λ (r : ResolvedData). r.levels) (resolved_at resolved t)
 
   table-levels : (t : ℕ) (o : Option ResolvedData) (ls : List LevelTable) → resolved_at resolved t ≡ o → option_and_then (λ (r : ResolvedData). r.levels) o ≡ Some ls → IsSettled files t (Some ls)
