@@ -5,3 +5,4 @@ pub mod Naming
 pub mod Reading
 pub mod Resolving
 pub mod Stringing
+pub mod Ways
