@@ -23,4 +23,5 @@ pub mod Telling
 pub mod Typed
 pub mod United
 pub mod Walking
+pub mod Ways
 pub mod Within
