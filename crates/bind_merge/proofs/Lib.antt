@@ -17,6 +17,7 @@ pub mod MergedRecord
 pub mod NamedFiles
 pub mod ReadAnswers
 pub mod Sorting
+pub mod Spreading
 pub mod Stringing
 pub mod TablesOf
 pub mod Telling

@@ -4,5 +4,6 @@ pub mod Items
 pub mod Naming
 pub mod Reading
 pub mod Resolving
+pub mod Spreading
 pub mod Stringing
 pub mod Ways
