@@ -121,7 +121,7 @@ pub(crate) fn found_by<'a>(
     ensures { option_map (λ r. r.now) result ≡ resolved_as resolved.now (named_in names.now name.now) }
 {
     match names.get(name) {
-        Some(Named::One(file)) => resolved.get(file.0 as usize)?.as_ref(),
+        Some(Named::One(file)) => resolved.get(file as usize)?.as_ref(),
         _ => None,
     }
 }

@@ -6,7 +6,7 @@ ghost use Rattle.bind_merge.specs.Listing.{read_files};
 ghost use Rattle.bind_merge.specs.Inner.Naming.{HasMore, one_more};
 ghost use Rattle.bind_merge.specs.Inner.Resolving.{AreNames, named_in};
 
-use edt_base::{Bytes, FileNo, Text};
+use edt_base::{Bytes, Text};
 use std::alloc::{AllocError, Global};
 use std::collections::BTreeMap;
 use std::marker::Model;
@@ -14,7 +14,8 @@ use std::marker::Model;
 /// The files of one base name.
 #[derive(Clone, Copy, Debug, PartialEq, Eq)]
 pub(crate) enum Named {
-    One(FileNo),
+    /// The one file, by its place in the list.
+    One(u32),
     Several,
 }
 
@@ -43,7 +44,7 @@ fn base_name(name: &str) -> &str
 }
 
 // What a base name names, with a file more, behind those that it names.
-fn one_more(before: Option<Named>, file: FileNo) -> Named
+fn one_more(before: Option<Named>, file: u32) -> Named
     ensures { result ≡ one_more before file }
 {
     match before {
@@ -59,14 +60,11 @@ fn named_in(files: &BTreeMap<Text, Named>, base: &Text) -> Option<Named>
 }
 
 // A file more. The one error is want of memory.
-fn add(files: &mut BTreeMap<Text, Named>, base: Text, file: FileNo) -> Result<(), AllocError>
+fn add(files: &mut BTreeMap<Text, Named>, base: Text, file: u32) -> Result<(), AllocError>
     ensures { OnOk result (HasMore files.old.entries base file files.new.entries) }
 {
     let named = one_more(named_in(files, &base), file);
-    match files.insert(base, named) {
-        Ok(_) => {}
-        Err(_) => return Err(AllocError),
-    }
+    files.insert(base, named)?;
     Ok(())
 }
 
@@ -87,7 +85,7 @@ impl Names {
         let mut names = BTreeMap::new(alloc);
         for number in 0..files.len() {
             let base = base_of(alloc, &files[number].0)?;
-            add(&mut names, base, FileNo(number as u32))?;
+            add(&mut names, base, number as u32)?;
         }
         Ok(Names { files: names })
     }

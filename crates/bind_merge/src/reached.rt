@@ -48,7 +48,7 @@ fn add_included(
 ) -> Result<(), AllocError> {
     for include in includes {
         if let Some(Named::One(file)) = names.get(&include.name) {
-            included.push(file)?;
+            included.push(FileNo(file))?;
         }
     }
     Ok(())

@@ -26,7 +26,7 @@ pub(crate) fn none_each<T: Drop>(
     ensures none { IfOk result (λ v. AreNone v.items) }
 {
     let mut nones = Vec::with_capacity(alloc, count)?;
-    for _i in 0..count {
+    for _ in 0..count {
         nones.push(None)?;
     }
     Ok(nones)

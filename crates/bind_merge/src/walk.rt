@@ -207,11 +207,11 @@ fn bars(deep: bool, path: &[FileNo], named: Option<Named>) -> bool
     }
 }
 
-fn is_among(path: &[FileNo], file: FileNo) -> bool
+fn is_among(path: &[FileNo], file: u32) -> bool
     ensures { result ≡ list_any (λ k. nat_eq k file) path.now }
 {
     for at in path {
-        if at.0 == file.0 {
+        if at.0 == file {
             return true;
         }
     }
@@ -259,7 +259,7 @@ fn high(resolved: &[Option<Resolved>], left: u32, named: Option<Named>) -> Optio
             if fits(resolved, file, left) {
                 None
             } else {
-                Some(file)
+                Some(FileNo(file))
             }
         }
         _ => None,
@@ -267,10 +267,10 @@ fn high(resolved: &[Option<Resolved>], left: u32, named: Option<Named>) -> Optio
 }
 
 // A file is resolved, and its height is below what is left.
-fn fits(resolved: &[Option<Resolved>], file: FileNo, left: u32) -> bool
+fn fits(resolved: &[Option<Resolved>], file: u32, left: u32) -> bool
     ensures { result ≡ is_below left (resolved_at resolved.now file) }
 {
-    match resolved.get(file.0 as usize) {
+    match resolved.get(file as usize) {
         Some(Some(found)) => found.height < left,
         _ => false,
     }

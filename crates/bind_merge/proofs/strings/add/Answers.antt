@@ -17,4 +17,4 @@ pub returns-in-Ok-false-clause-finders : goal.returns-in-Ok-false-clause-finders
 returns-in-Ok-false-clause-finders c = λ all h f.
     subst (λ (x : List ℕ). Finds c.args.finders.now.items (all ++ x ∷ [])) c.as_str.ensures
     (finds-same c.args.known.now c.args.finders.now.items all c.as_str.result.now h
-    (not-false _ c.in-Ok-false.field-0 c.in-Ok-false.ensures.added c.in-Ok-false.field-0-is) f)
+    (not-false _ c.in-Ok-false.field-0 c.in-Ok-false.ensures.added c.in-Ok-false.field-0-test) f)
