@@ -1,17 +1,18 @@
 -- Reading spreads along includes until all that is included is read.
-use Rattle.std.proofs.Common.{◌≡◌, ◌≢◌, ◌⊎◌, inl, inr, ◌∙◌, sym, ap, subst, refl, ◌+◌, ◌<◌, ◌≤◌, ◌||◌, ◌&&◌, ◌++◌, ℕ, zero, suc, Bool, true, false, List, [], ◌∷◌, length, Option, Some, None, Result, nat_eq, is_some, arith}
+use Rattle.std.proofs.Common.{◌≡◌, ◌≢◌, ◌⊎◌, inl, inr, ◌∙◌, sym, ap, subst, refl, ◌+◌, ◌<◌, ◌≤◌, ◌||◌, ◌&&◌, ◌++◌, ℕ, zero, suc, Bool, true, false, List, [], ◌∷◌, length, Option, Some, None, Result, nat_eq, nat_lt, if◌then◌else◌, is_some, arith}
 use Rattle.std.specs.List.{flat_map, list_all, list_any, slice_get, slice_set}
 use Rattle.std.specs.Option.{option_and_then}
-use Rattle.std.proofs.lemmas.Bool.Decides.{Decides-eqb}
+use Rattle.std.specs.Str.{bytes_eq}
+use Rattle.std.proofs.lemmas.Bool.Decides.{Decides-eqb, Decides-ltb}
 use Rattle.edt_base.specs.declared.fault.Fault.{Fault}
 use Rattle.bind_load.specs.RecordData.{IncludeData, LevelData}
-use Rattle.bind_merge.specs.Files.{FileData, record_at, named_files, named_from}
+use Rattle.bind_merge.specs.Files.{FileData, base_name, record_at, named_files, named_from}
 use Rattle.bind_merge.specs.Levels.{OwnData}
 use Rattle.bind_merge.specs.declared.names.Named.{Named}
 use Rattle.bind_merge.specs.declared.names.Named.TheVariants.{One, Several}
 use Rattle.bind_merge.specs.declared.reading.Read.{Read}
 use Rattle.bind_merge.specs.Inner.Reading.{AreRead, IsClosed, IsReadAt, IsReadOf, all_read, is_read_as, is_read_at, leads_to_read, own_at, own_in, read_at}
-use Rattle.bind_merge.specs.Inner.Resolving.{NameData, named_in}
+use Rattle.bind_merge.specs.Inner.Resolving.{AreNames, NameData, named_in, told}
 use Rattle.bind_merge.specs.Inner.Spreading.{is_among, one_of, included_at, included_in, included_by, unread, Spreads, HasSpread}
 use Rattle.bind_merge.proofs.Heights.{slice-set-other, slice-set-same}
 use Rattle.bind_merge.proofs.Ways.{any-both}
@@ -267,3 +268,55 @@ spread_ends files names reads more left none h k own e = at (h.closed k own e)
     at : (is_among left k ≡ true) ⊎ (all_read names more own ≡ true) → all_read names more own ≡ true
     at (inl a) = absurd (let x : is_among [] k ≡ true = ap (λ ks. is_among ks k) (sym none) ∙ a in cc)
     at (inr a) = a
+
+-- ---- what is named is listed
+
+listed-from : (n j k : ℕ) (fs : List FileData) (name : List ℕ) → n ≡ j + length fs → list_any (nat_eq k) (named_from j fs name) ≡ true → k < n
+listed-from n j k [] name e h = absurd cc
+listed-from n j k (f ∷ fs) name e h = at (bytes_eq (base_name f.name) name) (λ g. listed-from n (j + 1) k fs name (e ∙ omega arith) g) h
+  where
+    here : (b : Bool) → nat_eq k j ≡ b → (list_any (nat_eq k) (named_from (j + 1) fs name) ≡ true → k < n)
+        → (b || list_any (nat_eq k) (named_from (j + 1) fs name)) ≡ true → k < n
+    here true t rest g = let q : k ≡ j = (Decides-eqb k j).0 t in omega (arith, q, e)
+    here false t rest g = rest g
+
+    at : (b : Bool) → (list_any (nat_eq k) (named_from (j + 1) fs name) ≡ true → k < n)
+        → list_any (nat_eq k) (if b then j ∷ named_from (j + 1) fs name else named_from (j + 1) fs name) ≡ true → k < n
+    at true rest g = here (nat_eq k j) refl rest g
+    at false rest g = rest g
+
+told-listed : (files : List FileData) (k : ℕ) (ns : List ℕ) → ((j : ℕ) → list_any (nat_eq j) ns ≡ true → j < length files) → told ns ≡ Some (One k) → k < length files
+told-listed files k [] h e = absurd cc
+told-listed files k (t ∷ []) h e = let q : t ≡ k = cc in subst (λ j. j < length files) q (h t (or-left _ _ ((Decides-eqb t t).1 refl)))
+told-listed files k (t ∷ u ∷ ts) h e = absurd cc
+
+one-listed : (files : List FileData) (names : NameData) → AreNames files names → (base : List ℕ) (o : Option Named) → named_in names base ≡ o
+    → list_all (λ k. nat_lt k (length files)) (one_of o) ≡ true
+one-listed files names known base None e = refl
+one-listed files names known base (Some (One k)) e =
+    let l : k < length files = told-listed files k (named_files files base) (λ j h. listed-from (length files) 0 j files base (omega arith) h) (sym (known base) ∙ e) in
+    both _ _ ((Decides-ltb k (length files)).1 l) refl
+one-listed files names known base (Some Several) e = refl
+
+all-joined : (f : ℕ → Bool) (xs ys : List ℕ) → list_all f xs ≡ true → list_all f ys ≡ true → list_all f (xs ++ ys) ≡ true
+all-joined f [] ys e g = g
+all-joined f (x ∷ xs) ys e g =
+    let p : (f x ≡ true) × (list_all f xs ≡ true) = parts _ _ e in
+    both _ _ p.0 (all-joined f xs ys p.1 g)
+
+level-listed : (files : List FileData) (names : NameData) → AreNames files names → (is : List IncludeData)
+    → list_all (λ k. nat_lt k (length files)) (flat_map (included_at names) is) ≡ true
+level-listed files names known [] = refl
+level-listed files names known (i ∷ is) =
+    all-joined _ (included_at names i) (flat_map (included_at names) is) (one-listed files names known i.name (named_in names i.name) refl) (level-listed files names known is)
+
+record-listed : (files : List FileData) (names : NameData) → AreNames files names → (own : List OwnData)
+    → list_all (λ k. nat_lt k (length files)) (included_in names own) ≡ true
+record-listed files names known [] = refl
+record-listed files names known (l ∷ ls) =
+    all-joined _ (flat_map (included_at names) l.includes) (included_in names ls) (level-listed files names known l.includes) (record-listed files names known ls)
+
+pub included_listed : (files : List FileData) (names : NameData) → AreNames files names → (o : Option (List OwnData))
+    → list_all (λ k. nat_lt k (length files)) (included_by names o) ≡ true
+included_listed files names known None = refl
+included_listed files names known (Some own) = record-listed files names known own

@@ -1,5 +1,13 @@
 //! Reads the files to which others lead by their includes.
 
+ghost use Rattle.std.specs.Prelude.{◌≡◌, ◌<◌, ◌++◌, [], IfOk, OnOk, length, map, nat_lt, true, ℕ};
+ghost use Rattle.std.specs.List.{flat_map, list_all};
+ghost use Rattle.bind_load.specs.RecordSeen.{include_of};
+ghost use Rattle.bind_merge.specs.Listing.{read_files};
+ghost use Rattle.bind_merge.specs.Inner.Reading.{is_read_at, own_at};
+ghost use Rattle.bind_merge.specs.Inner.Resolving.{AreNames};
+ghost use Rattle.bind_merge.specs.Inner.Spreading.{HasSpread, Spreads, included_at, included_by, included_in, is_among};
+
 use crate::names::{Named, Names};
 use crate::own::OwnLevel;
 use crate::reading::{Read, read_file};
@@ -16,7 +24,12 @@ pub(crate) fn read_reached(
     names: &Names,
     first: &[FileNo],
     reads: &mut Vec<Option<Read>>,
-) -> Result<(), AllocError> {
+) -> Result<(), AllocError>
+    requires len { length reads.old.items ≡ length files.now }
+    requires named { AreNames (read_files files.now) names.now }
+    requires first { (k : ℕ) → is_read_at reads.old.items k ≡ true → is_among first.now k ≡ true }
+    ensures { OnOk result (HasSpread (read_files files.now) names.now reads.old.items reads.new.items []) }
+{
     let mut left = Vec::from_slice(alloc, first)?;
     while let Some(file) = left.pop() {
         let included = included_by(alloc, names, reads.as_slice(), file)?;
@@ -31,12 +44,28 @@ fn included_by(
     names: &Names,
     reads: &[Option<Read>],
     file: FileNo,
-) -> Result<Vec<FileNo>, AllocError> {
-    let mut included = Vec::new(alloc);
-    if let Some(levels) = own_at(reads, file.0 as usize) {
-        for level in levels {
-            add_included(names, level.includes.as_slice(), &mut included)?;
+) -> Result<Vec<FileNo>, AllocError>
+    ensures { IfOk result (λ v. v.items ≡ included_by names.now (own_at reads.now file)) }
+{
+    match own_at(reads, file.0 as usize) {
+        Some(own) => {
+            let included = included_in(alloc, names, own)?;
+            Ok(included)
         }
+        None => Ok(Vec::new(alloc)),
+    }
+}
+
+fn included_in(
+    alloc: Global,
+    names: &Names,
+    own: &[OwnLevel],
+) -> Result<Vec<FileNo>, AllocError>
+    ensures { IfOk result (λ v. v.items ≡ included_in names.now own.now) }
+{
+    let mut included = Vec::new(alloc);
+    for level in own {
+        add_included(names, level.includes.as_slice(), &mut included)?;
     }
     Ok(included)
 }
@@ -45,7 +74,9 @@ fn add_included(
     names: &Names,
     includes: &[Include],
     included: &mut Vec<FileNo>,
-) -> Result<(), AllocError> {
+) -> Result<(), AllocError>
+    ensures { OnOk result (included.new.items ≡ included.old.items ++ flat_map (included_at names.now) (map include_of includes.now)) }
+{
     for include in includes {
         if let Some(Named::One(file)) = names.get(&include.name) {
             included.push(FileNo(file))?;
@@ -61,7 +92,12 @@ fn read_all(
     included: &[FileNo],
     reads: &mut Vec<Option<Read>>,
     left: &mut Vec<FileNo>,
-) -> Result<(), AllocError> {
+) -> Result<(), AllocError>
+    requires len { length reads.old.items ≡ length files.now }
+    requires listed { list_all (λ k. nat_lt k (length files.now)) included.now ≡ true }
+    ensures spreads { OnOk result (Spreads (read_files files.now) reads.old.items left.old.items reads.new.items left.new.items) }
+    ensures read { OnOk result (list_all (is_read_at reads.new.items) included.now ≡ true) }
+{
     for file in included {
         read_one(alloc, files, *file, reads, left)?;
     }
@@ -74,12 +110,19 @@ fn read_one(
     file: FileNo,
     reads: &mut Vec<Option<Read>>,
     left: &mut Vec<FileNo>,
-) -> Result<(), AllocError> {
+) -> Result<(), AllocError>
+    requires len { length reads.old.items ≡ length files.now }
+    requires listed { file < length files.now }
+    ensures spreads { OnOk result (Spreads (read_files files.now) reads.old.items left.old.items reads.new.items left.new.items) }
+    ensures read { OnOk result (is_read_at reads.new.items file ≡ true) }
+{
     let at = file.0 as usize;
-    if reads[at].is_none() {
-        let (name, bytes) = &files[at];
-        reads[at] = Some(read_file(alloc, name, bytes)?);
-        left.push(file)?;
+    if reads[at].is_some() {
+        return Ok(());
     }
+    let entry = &files[at];
+    let read = read_file(alloc, &entry.0, &entry.1)?;
+    reads[at] = Some(read);
+    left.push(file)?;
     Ok(())
 }
