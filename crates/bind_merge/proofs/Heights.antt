@@ -34,14 +34,14 @@ all-both test (x ∷ xs) ys e f =
 
 -- ---- a list with one place set
 
-slice-set-other : {X : Type 0} (xs : List X) (k : ℕ) (v : X) (j : ℕ) → j ≢ k → slice_get (slice_set xs k v) j ≡ slice_get xs j
+pub slice-set-other : {X : Type 0} (xs : List X) (k : ℕ) (v : X) (j : ℕ) → j ≢ k → slice_get (slice_set xs k v) j ≡ slice_get xs j
 slice-set-other [] k v j h = refl
 slice-set-other (x ∷ xs) zero v zero h = absurd (h refl)
 slice-set-other (x ∷ xs) zero v (suc j) h = refl
 slice-set-other (x ∷ xs) (suc k) v zero h = refl
 slice-set-other (x ∷ xs) (suc k) v (suc j) h = slice-set-other xs k v j (λ e. h (ap suc e))
 
-slice-set-same : {X : Type 0} (xs : List X) (k : ℕ) (v : X) → k < length xs → slice_get (slice_set xs k v) k ≡ Some v
+pub slice-set-same : {X : Type 0} (xs : List X) (k : ℕ) (v : X) → k < length xs → slice_get (slice_set xs k v) k ≡ Some v
 slice-set-same [] k v l = absurd (omega arith)
 slice-set-same (x ∷ xs) zero v l = refl
 slice-set-same (x ∷ xs) (suc k) v l = slice-set-same xs k v (omega arith)
@@ -378,3 +378,15 @@ begins_none names reads old none files known read closed = record {
   sound = λ k r e. absurd (let x : resolved_at old k ≡ None = none-at old k none in cc);
   all = λ k d l w c. absurd (omega arith);
 }
+
+length-set : {X : Type 0} (xs : List X) (k : ℕ) (v : X) → length (slice_set xs k v) ≡ length xs
+length-set [] k v = refl
+length-set (x ∷ xs) zero v = refl
+length-set (x ∷ xs) (suc k) v = ap suc (length-set xs k v)
+
+pub resolves_long : (names : NameData) (reads : List (Option Read)) (h k : ℕ) (old new : List (Option ResolvedData)) → Resolves names reads h k old new
+    → length new ≡ length old
+resolves_long names reads h k old new (not_good e) = refl
+resolves_long names reads h k old new (before r e) = refl
+resolves_long names reads h k old new (too_high own o f) = refl
+resolves_long names reads h k old new (at_once own levels o none low merges) = length-set old k (Some (record { height = h; levels = levels }))

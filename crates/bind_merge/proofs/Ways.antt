@@ -26,7 +26,7 @@ use Rattle.bind_merge.specs.Inner.Ways.{walk_in, clean_in, NoneCleanIn, IsWay, C
 use Rattle.bind_merge.proofs.Heights.{clean-le}
 use Rattle.bind_merge.proofs.Walking.{walk-clean, clean-walk, none-less, unclean-less}
 
-any-both : {X : Type 0} (test : X → Bool) (xs ys : List X) → list_any test (xs ++ ys) ≡ (list_any test xs || list_any test ys)
+pub any-both : {X : Type 0} (test : X → Bool) (xs ys : List X) → list_any test (xs ++ ys) ≡ (list_any test xs || list_any test ys)
 any-both test [] ys = refl
 any-both test (x ∷ xs) ys = ap (λ b. test x || b) (any-both test xs ys) ∙ or-assoc (test x) (list_any test xs) (list_any test ys)
   where
