@@ -11,6 +11,7 @@ mod lookup;
 mod merging;
 mod names;
 mod own;
+mod reached;
 mod reading;
 mod resolve;
 mod same;

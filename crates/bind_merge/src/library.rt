@@ -1,12 +1,12 @@
 //! The library of binding files.
 
 use crate::checks::merged_rule;
-use crate::level::Level;
 use crate::names::Names;
 use crate::reading::{Read, compatible_in, record_of};
 use crate::merging::Resolved;
-use crate::resolve::{none_each, read_reached, resolve};
-use crate::strings::{contains_one, finders};
+use crate::reached::read_reached;
+use crate::resolve::{none_each, resolve};
+use crate::strings::Strings;
 use crate::view::View;
 use crate::walk::{file_fault, first_fault};
 use edt_base::{Bytes, End, FileNo, Rule, Text};
@@ -138,14 +138,14 @@ fn matching(
     compats: &[Text],
     reads: &mut Vec<Option<Read>>,
 ) -> Result<Vec<Match>, End> {
-    let finders = finders(alloc, compats)?;
+    let strings = Strings::of(alloc, compats)?;
     let mut matches = Vec::new(alloc);
     for at in 0..files.len() {
         let (name, bytes) = &files[at];
-        if contains_one(finders.as_slice(), bytes.as_slice()) {
+        if strings.stand_in(bytes.as_slice()) {
             let value = read(alloc, name, bytes.as_slice())?;
             if let Some(compatible) = compatible_in(&value) {
-                if compats.contains(compatible) {
+                if strings.has(compatible) {
                     matches.push(Match {
                         compatible: compatible.copy(alloc)?,
                         file: FileNo(at as u32),
@@ -185,18 +185,18 @@ fn test(
 
 // The bus that a file's merged binding is for.
 fn bus_of(alloc: Global, resolved: &Option<Resolved>) -> Result<Option<Text>, AllocError> {
-    let Some(Resolved {
-        levels: Some(levels),
-        ..
-    }) = resolved
-    else {
+    let Some(found) = resolved else {
         return Ok(None);
     };
-    match levels.first() {
-        Some(Level {
-            on_bus: Some(bus), ..
-        }) => Ok(Some(bus.get().copy(alloc)?)),
-        _ => Ok(None),
+    let Some(levels) = &found.levels else {
+        return Ok(None);
+    };
+    let Some(top) = levels.first() else {
+        return Ok(None);
+    };
+    match &top.on_bus {
+        Some(bus) => Ok(Some(bus.get().copy(alloc)?)),
+        None => Ok(None),
     }
 }
 

@@ -112,8 +112,8 @@ fn merge_include(
     Ok(comes)
 }
 
-// What was resolved of the one file of a base name; None where no one file has it or isn't resolved.
-fn found_by<'a>(
+/// What was resolved of the one file of a base name; None where no one file has it or isn't resolved.
+pub(crate) fn found_by<'a>(
     names: &Names,
     name: &Text,
     resolved: &'a [Option<Resolved>],
