@@ -12,7 +12,7 @@ plus-one k = omega arith
 level-at : (es : List LevelTable) (k : ℕ) (z : LevelTable) → k < length es → z ≡ get_or es k z → drop k es ≡ z ∷ drop (k + 1) es
 level-at es k z h e =
     subst (λ w. drop k es ≡ w ∷ drop (k + 1) es) (sym e)
-      (subst (λ m. drop k es ≡ get_or es k z ∷ drop m es) (plus-one k) (drop-cons es k z h))
+    (subst (λ m. drop k es ≡ get_or es k z ∷ drop m es) (plus-one k) (drop-cons es k z h))
 
 pub past-length : (ts : List LevelTable) (k : ℕ) (l : LevelTable) (us : List LevelTable) → AddsAt ts k l us → k + 1 ≤ length us
 past-length _ _ _ _ (behind l) = omega arith

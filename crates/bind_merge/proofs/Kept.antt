@@ -41,8 +41,8 @@ twice t u v (e ∷ es) h =
 
 pub kept-twice : (allow block : Option (List (List ℕ))) (f : FilterLevel) (es : List EntryData) → f.allow ≡ allow → f.block ≡ block
     → filter (λ (e : EntryData). is_kept_where false block e.name) (filter (λ (e : EntryData). is_kept_where true allow e.name) es)
-      ≡ filter (λ (e : EntryData). level_lets e.name (Some f)) es
+    ≡ filter (λ (e : EntryData). level_lets e.name (Some f)) es
 kept-twice allow block f es p q =
     twice (λ (e : EntryData). is_kept_where true allow e.name) (λ (e : EntryData). is_kept_where false block e.name) (λ (e : EntryData). level_lets e.name (Some f)) es
-      (λ e. ap (λ x. x && is_kept_where false block e.name) (allowed-is e.name allow ∙ ap (λ o. is_allowed e.name o) (sym p))
-        ∙ ap (λ x. is_allowed e.name f.allow && x) (unblocked-is e.name block ∙ ap (λ o. is_unblocked e.name o) (sym q)))
+    (λ e. ap (λ x. x && is_kept_where false block e.name) (allowed-is e.name allow ∙ ap (λ o. is_allowed e.name o) (sym p))
+    ∙ ap (λ x. is_allowed e.name f.allow && x) (unblocked-is e.name block ∙ ap (λ o. is_unblocked e.name o) (sym q)))

@@ -13,7 +13,7 @@ middle-below low high m h e = (omega arith, omega arith)
 pub loop-low-preserved-in-Less : goal.loop-low-preserved-in-Less
 loop-low-preserved-in-Less c =
     let within : (c.loop-low.low ≤ c.loop-low.low + (c.loop-low.high - c.loop-low.low) / 2) × (c.loop-low.low + (c.loop-low.high - c.loop-low.low) / 2 < c.loop-low.high) =
-      middle-below c.loop-low.low c.loop-low.high _ c.loop-low-test.true refl in
+    middle-below c.loop-low.low c.loop-low.high _ c.loop-low-test.true refl in
     let x1 : c.name.result.now ≡ c.index-entries-middle.result.name = c.name.ensures in
     let x3 : c.cmp.result ≡ slice_cmp nat_cmp c.name.result.now c.args.name.now = c.cmp.ensures in
     let x4 : c.cmp.result ≡ Less = c.in-Less.is in
@@ -24,13 +24,13 @@ loop-low-preserved-in-Less c =
       low_in = up;
       high_in = c.loop-low.invariant.high_in;
       between = goes-up c.args.name.now c.args.entries.now c.loop-low.low c.loop-low.high (c.loop-low.low + (c.loop-low.high - c.loop-low.low) / 2)
-        c.index-entries-middle.result c.requires in-all c.index-entries-middle.is order c.loop-low.invariant.between;
+          c.index-entries-middle.result c.requires in-all c.index-entries-middle.is order c.loop-low.invariant.between;
     }
 
 pub loop-low-preserved : goal.loop-low-preserved
 loop-low-preserved c =
     let within : (c.loop-low.low ≤ c.loop-low.low + (c.loop-low.high - c.loop-low.low) / 2) × (c.loop-low.low + (c.loop-low.high - c.loop-low.low) / 2 < c.loop-low.high) =
-      middle-below c.loop-low.low c.loop-low.high _ c.loop-low-test.true refl in
+    middle-below c.loop-low.low c.loop-low.high _ c.loop-low-test.true refl in
     let x1 : c.name.result.now ≡ c.index-entries-middle.result.name = c.name.ensures in
     let x3 : c.cmp.result ≡ slice_cmp nat_cmp c.name.result.now c.args.name.now = c.cmp.ensures in
     let x4 : c.cmp.result ≡ Greater = c.in-Greater.is in
@@ -41,17 +41,17 @@ loop-low-preserved c =
       low_in = within.0;
       high_in = down;
       between = goes-down c.args.name.now c.args.entries.now c.loop-low.low c.loop-low.high (c.loop-low.low + (c.loop-low.high - c.loop-low.low) / 2)
-        c.index-entries-middle.result c.requires in-all c.index-entries-middle.is order c.loop-low.invariant.between;
+          c.index-entries-middle.result c.requires in-all c.index-entries-middle.is order c.loop-low.invariant.between;
     }
 
 pub returns-in-Equal : goal.returns-in-Equal
 returns-in-Equal c =
     let within : (c.loop-low.low ≤ c.loop-low.low + (c.loop-low.high - c.loop-low.low) / 2) × (c.loop-low.low + (c.loop-low.high - c.loop-low.low) / 2 < c.loop-low.high) =
-      middle-below c.loop-low.low c.loop-low.high _ c.loop-low-test.true refl in
+    middle-below c.loop-low.low c.loop-low.high _ c.loop-low-test.true refl in
     let x1 : c.name.result.now ≡ c.index-entries-middle.result.name = c.name.ensures in
     let x3 : c.cmp.result ≡ slice_cmp nat_cmp c.name.result.now c.args.name.now = c.cmp.ensures in
     let x4 : c.cmp.result ≡ Equal = c.in-Equal.is in
     let order : slice_cmp nat_cmp c.index-entries-middle.result.name c.args.name.now ≡ Equal = cc in
     let in-all : c.loop-low.low + (c.loop-low.high - c.loop-low.low) / 2 < length c.args.entries.now = let h = c.loop-low.invariant.high_in in omega (arith, within.1) in
     sym (equal-found c.args.name.now c.args.entries.now (c.loop-low.low + (c.loop-low.high - c.loop-low.low) / 2)
-      c.index-entries-middle.result c.requires in-all c.index-entries-middle.is order)
+    c.index-entries-middle.result c.requires in-all c.index-entries-middle.is order)
