@@ -4,6 +4,7 @@
 //! is what the layer is asked; `is` has the answer, or `starts` and `ends` its two ends.
 #![tactic(auto)]
 
+mod bindings;
 mod c_lines;
 mod expansions;
 mod objects;
@@ -30,6 +31,7 @@ enum Layer {
     DtsParse,
     YamlProfile,
     BindLoad,
+    BindMerge,
     RegRanges,
     DepOrder,
     CTokens,
@@ -37,12 +39,13 @@ enum Layer {
     EdtRun,
 }
 
-const LAYERS: [Layer; 10] = [
+const LAYERS: [Layer; 11] = [
     Layer::EdtBase,
     Layer::DtsLex,
     Layer::DtsParse,
     Layer::YamlProfile,
     Layer::BindLoad,
+    Layer::BindMerge,
     Layer::RegRanges,
     Layer::DepOrder,
     Layer::CTokens,
@@ -59,6 +62,7 @@ impl Layer {
             Layer::DtsParse => "dts_parse.rows",
             Layer::YamlProfile => "yaml_profile.rows",
             Layer::BindLoad => "bind_load.rows",
+            Layer::BindMerge => "bind_merge.rows",
             Layer::RegRanges => "reg_ranges.rows",
             Layer::DepOrder => "dep_order.rows",
             Layer::CTokens => "c_tokens.rows",
@@ -75,6 +79,7 @@ impl Layer {
             Layer::DtsParse => scripts::answer(alloc, row),
             Layer::YamlProfile => yaml_values::answer(alloc, row),
             Layer::BindLoad => records::answer(alloc, row),
+            Layer::BindMerge => bindings::answer(alloc, row),
             Layer::RegRanges => registers::answer(alloc, row),
             Layer::DepOrder => orders::answer(alloc, row),
             Layer::CTokens => c_lines::answer(alloc, row),
