@@ -40,20 +40,20 @@ mutual
   same_items-is end (item w ys) e = absurd cc
   same_items-is (item v xs) end e = absurd cc
   same_items-is (item v xs) (item w ys) e =
-    let h : (same v w ≡ true) × (same_items xs ys ≡ true) = and-true (same v w) (same_items xs ys) e in
-    let first : v ≡ w = same-is v w h.0 in
-    let rest : xs ≡ ys = same_items-is xs ys h.1 in cc
+      let h : (same v w ≡ true) × (same_items xs ys ≡ true) = and-true (same v w) (same_items xs ys) e in
+      let first : v ≡ w = same-is v w h.0 in
+      let rest : xs ≡ ys = same_items-is xs ys h.1 in cc
 
   pub same_pairs-is : (ps qs : Pairs) → same_pairs ps qs ≡ true → ps ≡ qs
   same_pairs-is last last e = refl
   same_pairs-is last (pair l w qs) e = absurd cc
   same_pairs-is (pair k v ps) last e = absurd cc
   same_pairs-is (pair k v ps) (pair l w qs) e =
-    let h : (bytes_eq k l ≡ true) × ((same v w && same_pairs ps qs) ≡ true) = and-true (bytes_eq k l) (same v w && same_pairs ps qs) e in
-    let g : (same v w ≡ true) × (same_pairs ps qs ≡ true) = and-true (same v w) (same_pairs ps qs) h.1 in
-    let name : k ≡ l = (bytes_decides k l).0 h.0 in
-    let first : v ≡ w = same-is v w g.0 in
-    let rest : ps ≡ qs = same_pairs-is ps qs g.1 in cc
+      let h : (bytes_eq k l ≡ true) × ((same v w && same_pairs ps qs) ≡ true) = and-true (bytes_eq k l) (same v w && same_pairs ps qs) e in
+      let g : (same v w ≡ true) × (same_pairs ps qs ≡ true) = and-true (same v w) (same_pairs ps qs) h.1 in
+      let name : k ≡ l = (bytes_decides k l).0 h.0 in
+      let first : v ≡ w = same-is v w g.0 in
+      let rest : ps ≡ qs = same_pairs-is ps qs g.1 in cc
 
 mutual
   pub same-itself : (v : Value) → same v v ≡ true
@@ -73,7 +73,7 @@ mutual
   pub same_pairs-itself : (ps : Pairs) → same_pairs ps ps ≡ true
   same_pairs-itself last = refl
   same_pairs-itself (pair k v ps) =
-    both-true (bytes_eq k k) (same v v && same_pairs ps ps) ((bytes_decides k k).1 refl)
+      both-true (bytes_eq k k) (same v v && same_pairs ps ps) ((bytes_decides k k).1 refl)
       (both-true (same v v) (same_pairs ps ps) (same-itself v) (same_pairs-itself ps))
 
 pub values_agree : (v w : Value) (r : Bool) → r ≡ same v w → IsTrue r ↔ (v ≡ w)

@@ -98,29 +98,30 @@ module _ (names : NameData) (resolved : List (Option ResolvedData)) where
     item-at : (xs : List A) (k : ℕ) (z : A) → k < length xs → z ≡ get_or xs k z → drop k xs ≡ z ∷ drop (k + 1) xs
     item-at xs k z h e =
         subst (λ w. drop k xs ≡ w ∷ drop (k + 1) xs) (sym e)
-          (subst (λ m. drop k xs ≡ get_or xs k z ∷ drop m xs) (plus-one k) (drop-cons xs k z h))
+        (subst (λ m. drop k xs ≡ get_or xs k z ∷ drop m xs) (plus-one k) (drop-cons xs k z h))
 
     module _ (m : ℕ) (xs : List A) (k : ℕ) (z : A) (l : k < length xs) (is : z ≡ get_or xs k z) where
       pub includes-ready : list_all (is_ready names resolved) (at_level m (map f (drop k xs))) ≡ true
           → (is_ready names resolved (m, f z) ≡ true) × (list_all (is_ready names resolved) (at_level m (map f (drop (k + 1) xs))) ≡ true)
       includes-ready r =
           let h : list_all (is_ready names resolved) ((m, f z) ∷ at_level m (map f (drop (k + 1) xs))) ≡ true =
-            subst (λ ys. list_all (is_ready names resolved) (at_level m (map f ys)) ≡ true) (item-at xs k z l is) r in
-          (all-first (is_ready names resolved) (m, f z) (at_level m (map f (drop (k + 1) xs))) h,
-          all-rest (is_ready names resolved) (m, f z) (at_level m (map f (drop (k + 1) xs))) h)
+          subst (λ ys. list_all (is_ready names resolved) (at_level m (map f ys)) ≡ true) (item-at xs k z l is) r in (
+            all-first (is_ready names resolved) (m, f z) (at_level m (map f (drop (k + 1) xs))) h,
+            all-rest (is_ready names resolved) (m, f z) (at_level m (map f (drop (k + 1) xs))) h,
+          )
 
       pub includes-next : (ts : List LevelTable) (es : List (ℕ × IncludeData)) (us ws : List LevelTable) → Going ts es us (at_level m (map f (drop k xs)))
           → BringsIf names resolved true us (m, f z) ws → Going ts es ws (at_level m (map f (drop (k + 1) xs)))
       includes-next ts es us ws g x =
           let h : Going ts es us ((m, f z) ∷ at_level m (map f (drop (k + 1) xs))) =
-            subst (λ ys. Going ts es us (at_level m (map f ys))) (item-at xs k z l is) g in
+          subst (λ ys. Going ts es us (at_level m (map f ys))) (item-at xs k z l is) g in
           record { go = λ b vs r. h.go b vs (goes_on b us (m, f z) ws (at_level m (map f (drop (k + 1) xs))) vs x r) }
 
       pub includes-stop : (ts : List LevelTable) (es : List (ℕ × IncludeData)) (us vs : List LevelTable) → Going ts es us (at_level m (map f (drop k xs)))
           → IsSpoiled names resolved (m, f z) ⊎ Collides names resolved us (m, f z) → BringsAll names resolved false ts es vs
       includes-stop ts es us vs g x =
           let h : Going ts es us ((m, f z) ∷ at_level m (map f (drop (k + 1) xs))) =
-            subst (λ ys. Going ts es us (at_level m (map f ys))) (item-at xs k z l is) g in
+          subst (λ ys. Going ts es us (at_level m (map f ys))) (item-at xs k z l is) g in
           h.go false vs (stops us (m, f z) (at_level m (map f (drop (k + 1) xs))) vs x)
 
     pub includes-end : (m : ℕ) (ys : List A) (ts : List LevelTable) (es : List (ℕ × IncludeData)) (us : List LevelTable) → ys ≡ []
@@ -137,9 +138,10 @@ module _ (names : NameData) (resolved : List (Option ResolvedData)) where
         → (list_all (is_ready names resolved) (at_level k o.includes) ≡ true) × (list_all (is_ready names resolved) (own_includes (k + 1) (drop (k + 1) own)) ≡ true)
     own-ready r =
         let h : list_all (is_ready names resolved) (at_level k o.includes ++ own_includes (k + 1) (drop (k + 1) own)) ≡ true =
-          subst (λ xs. list_all (is_ready names resolved) xs ≡ true) own-opened r in
-        (all-front (is_ready names resolved) (at_level k o.includes) (own_includes (k + 1) (drop (k + 1) own)) h,
-        all-back (is_ready names resolved) (at_level k o.includes) (own_includes (k + 1) (drop (k + 1) own)) h)
+        subst (λ xs. list_all (is_ready names resolved) xs ≡ true) own-opened r in (
+          all-front (is_ready names resolved) (at_level k o.includes) (own_includes (k + 1) (drop (k + 1) own)) h,
+          all-back (is_ready names resolved) (at_level k o.includes) (own_includes (k + 1) (drop (k + 1) own)) h,
+        )
 
     pub own-next : (ts : List LevelTable) (es : List (ℕ × IncludeData)) (us ws : List LevelTable) → Going ts es us (own_includes k (drop k own))
         → BringsAll names resolved true us (at_level k o.includes) ws → Going ts es ws (own_includes (k + 1) (drop (k + 1) own))

@@ -21,14 +21,14 @@ plus-one : (k : ℕ) → suc k ≡ k + 1
 plus-one k = omega arith
 
 pub goes-up : (p : List ℕ) (es : List EntryData) (low high k : ℕ) (z : EntryData) → Rises es → k < length es → z ≡ get_or es k z → slice_cmp nat_cmp z.name p ≡ Less
-  → Between p es low high → Between p es (k + 1) high
+    → Between p es low high → Between p es (k + 1) high
 goes-up p es low high k z r h e c b = record {
   from = subst (λ n. entry_named p es ≡ entry_named p (drop n es)) (plus-one k) (less-skip p es k z r h e c);
   before = b.before;
 }
 
 pub goes-down : (p : List ℕ) (es : List EntryData) (low high k : ℕ) (z : EntryData) → Rises es → k < length es → z ≡ get_or es k z → slice_cmp nat_cmp z.name p ≡ Greater
-  → Between p es low high → Between p es low k
+    → Between p es low high → Between p es low k
 goes-down p es low high k z r h e c b = record { from = b.from; before = greater-none p es k z r h e c }
 
 pub between-none : (p : List ℕ) (es : List EntryData) (low high : ℕ) → low ≡ high → Between p es low high → entry_named p es ≡ None

@@ -48,7 +48,7 @@ name-later a (x ∷ es) zero z h b e = subst (λ n. IsBefore a n) (sym (ap (λ (
 name-later a (x ∷ es) (suc k) z h b e = name-later a es k z (omega arith) b.1 e
 
 pub less-skip : (p : List ℕ) (es : List EntryData) (k : ℕ) (z : EntryData) → Rises es → k < length es → z ≡ get_or es k z → slice_cmp nat_cmp z.name p ≡ Less
-  → entry_named p es ≡ entry_named p (drop (suc k) es)
+    → entry_named p es ≡ entry_named p (drop (suc k) es)
 less-skip p [] k z r h e c = absurd (omega arith)
 less-skip p (x ∷ es) zero z r h e c =
     skip-if (bytes_eq x.name p) x (entry_named p es) (before-apart x.name p (subst (λ n. IsBefore n p) (ap (λ (y : EntryData). y.name) e) c))
@@ -58,7 +58,7 @@ less-skip p (x ∷ es) (suc k) z r h e c =
     ∙ less-skip p es k z r.1 l e c
 
 pub greater-none : (p : List ℕ) (es : List EntryData) (k : ℕ) (z : EntryData) → Rises es → k < length es → z ≡ get_or es k z → slice_cmp nat_cmp z.name p ≡ Greater
-  → entry_named p (drop k es) ≡ None
+    → entry_named p (drop k es) ≡ None
 greater-none p [] k z r h e c = absurd (omega arith)
 greater-none p (x ∷ es) zero z r h e c =
     let b : IsBefore p x.name = subst (λ n. IsBefore p n) (ap (λ (y : EntryData). y.name) e) (from-greater z.name p c) in
@@ -66,7 +66,7 @@ greater-none p (x ∷ es) zero z r h e c =
 greater-none p (x ∷ es) (suc k) z r h e c = greater-none p es k z r.1 (omega arith) e c
 
 pub equal-found : (p : List ℕ) (es : List EntryData) (k : ℕ) (z : EntryData) → Rises es → k < length es → z ≡ get_or es k z → slice_cmp nat_cmp z.name p ≡ Equal
-  → entry_named p es ≡ Some z
+    → entry_named p es ≡ Some z
 equal-found p [] k z r h e c = absurd (omega arith)
 equal-found p (x ∷ es) zero z r h e c =
     take-if (bytes_eq x.name p) x (entry_named p es) ((bytes_decides x.name p).1 (ap (λ (y : EntryData). y.name) (sym e) ∙ exact_bytes z.name p c)) ∙ ap Some (sym e)
@@ -78,7 +78,7 @@ equal-found p (x ∷ es) (suc k) z r h e c =
 -- ---- what an entry that was found tells
 
 found-at : (p : List ℕ) (x : EntryData) (es : List EntryData) (z : EntryData) (s : Setting) → (entry_named p es ≡ Some z → IsGiven es p s) → Gives z s
-  → (b : Bool) → bytes_eq x.name p ≡ b → (if b then Some x else entry_named p es) ≡ Some z → ((x.name ≡ p) × Gives x s) ⊎ IsGiven es p s
+    → (b : Bool) → bytes_eq x.name p ≡ b → (if b then Some x else entry_named p es) ≡ Some z → ((x.name ≡ p) × Gives x s) ⊎ IsGiven es p s
 found-at p x es z s below g true h e = let i : z ≡ x = cc in inl ((bytes_decides x.name p).0 h, subst (λ y. Gives y s) i g)
 found-at p x es z s below g false h e = inr (below e)
 
@@ -109,7 +109,7 @@ bare-given p (n ∷ ns) (inl g) = or-here (bytes_eq n p) (list_any (λ m. bytes_
 bare-given p (n ∷ ns) (inr g) = or-there (bytes_eq n p) (list_any (λ m. bytes_eq m p) ns) (bare-given p ns g)
 
 given-at : (p n : List ℕ) (ns : List (List ℕ)) → (list_any (λ m. bytes_eq m p) ns ≡ true → IsGiven (map bare ns) p named) → (b : Bool) → bytes_eq n p ≡ b → (b || list_any (λ m. bytes_eq m p) ns) ≡ true
-  → ((n ≡ p) × Gives (bare n) named) ⊎ IsGiven (map bare ns) p named
+    → ((n ≡ p) × Gives (bare n) named) ⊎ IsGiven (map bare ns) p named
 given-at p n ns below true h e = inl ((bytes_decides n p).0 h, refl)
 given-at p n ns below false h e = inr (below e)
 
@@ -151,5 +151,5 @@ pub name-table : (ns : List (List ℕ)) (es : List EntryData) → IsSortedOf (ma
 name-table ns es h = record {
   rises = h.rises;
   looks = λ p. is-there p es (entry_named p es) refl h.rises (list_any (λ n. bytes_eq n p) ns)
-    (λ g. bare-given p ns (h.given p named g)) (λ e. h.all p named (given-bare p ns e));
+      (λ g. bare-given p ns (h.given p named g)) (λ e. h.all p named (given-bare p ns e));
 }

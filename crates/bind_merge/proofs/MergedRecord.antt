@@ -54,7 +54,7 @@ module _ (names : NameData) (resolved : List (Option ResolvedData)) (files : Lis
   target : (e : ℕ × IncludeData) (found : ResolvedData) → found_by names resolved e ≡ Some found → Target files resolved e found
   target e found is =
       let h : (t : ℕ) × (named_files files e.1.name ≡ t ∷ []) × (resolved_at resolved t ≡ Some found) =
-        one-told resolved (named_files files e.1.name) found (subst (λ o. resolved_as resolved o ≡ Some found) (of e.1.name) is) in
+      one-told resolved (named_files files e.1.name) found (subst (λ o. resolved_as resolved o ≡ Some found) (of e.1.name) is) in
       record { file = h.0; names = h.1; at = h.2 }
 
   -- the merged levels of the files that were resolved
@@ -95,7 +95,7 @@ module _ (names : NameData) (resolved : List (Option ResolvedData)) (files : Lis
         let g : Target files resolved e x.found = target e x.found x.found_is in
         let s : IsSettled files g.file (Some x.levels) = settled-some g.file x.found (Some x.levels) g.at x.levels_are in
         conflict b us es vs r f (λ y a. sub y (inr a))
-          (from-held files k e.0 e.1 g.file (includes e (sub e (inl refl)) g.file g.names) x.levels s.0 ts us h x.adds)
+        (from-held files k e.0 e.1 g.file (includes e (sub e (inl refl)) g.file g.names) x.levels s.0 ts us h x.adds)
     conflict _ _ _ _ (stops ts e es vs x) f sub h = stopped ts e (sub e (inl refl)) h x
 
     tables-held : (ts : List LevelTable) → AreTablesOf (map own_level ls) ts → AreHeld files k ts
@@ -125,16 +125,16 @@ pub merges-stop : (names : NameData) (resolved : List (Option ResolvedData)) (ow
     → BringsAll names resolved false ts (own_includes 0 own) us → Merges names resolved own None
 merges-stop names resolved own ts us tables b files k ls of settled is same =
     conflict names resolved files of settled k ls is false ts (includes_from 0 ls) us
-      (subst (λ es. BringsAll names resolved false ts es us) (own-includes 0 ls) (subst (λ o. BringsAll names resolved false ts (own_includes 0 o) us) (sym same) b))
-      refl (λ e a. a) (tables-held names resolved files of settled k ls is ts (subst (λ o. AreTablesOf o ts) (sym same) tables))
+    (subst (λ es. BringsAll names resolved false ts es us) (own-includes 0 ls) (subst (λ o. BringsAll names resolved false ts (own_includes 0 o) us) (sym same) b))
+    refl (λ e a. a) (tables-held names resolved files of settled k ls is ts (subst (λ o. AreTablesOf o ts) (sym same) tables))
 
 -- all bring what they have
 pub merges-all : (names : NameData) (resolved : List (Option ResolvedData)) (own : List OwnData) (ts us : List LevelTable) → AreTablesOf own ts
     → BringsAll names resolved true ts (own_includes 0 own) us → Merges names resolved own (Some us)
 merges-all names resolved own ts us are b files k ls of settled is same =
     merges_once files (tables names resolved files of settled)
-      (λ t xs e. table-levels names resolved files of settled t (resolved_at resolved t) xs refl e)
-      k ls is ts us (subst (λ o. AreTablesOf o ts) (sym same) are)
-      (unites names resolved files of settled true ts (includes_from 0 ls) us
-        (subst (λ es. BringsAll names resolved true ts es us) (own-includes 0 ls) (subst (λ o. BringsAll names resolved true ts (own_includes 0 o) us) (sym same) b))
-        refl)
+    (λ t xs e. table-levels names resolved files of settled t (resolved_at resolved t) xs refl e)
+    k ls is ts us (subst (λ o. AreTablesOf o ts) (sym same) are)
+    (unites names resolved files of settled true ts (includes_from 0 ls) us
+    (subst (λ es. BringsAll names resolved true ts es us) (own-includes 0 ls) (subst (λ o. BringsAll names resolved true ts (own_includes 0 o) us) (sym same) b))
+    refl)

@@ -24,8 +24,12 @@ given-parts (x ∷ xs) ys p s (inr g) = elim (given-parts xs ys p s g) [ inl h �
 
 clash-wider : (xs ys us vs : List EntryData) → ((p : List ℕ) (s : Setting) → IsGiven xs p s → IsGiven us p s) → ((p : List ℕ) (s : Setting) → IsGiven ys p s → IsGiven vs p s) → ClashIn xs ys → ClashIn us vs
 clash-wider xs ys us vs f g c = record {
-  name = c.name; one = c.one; other = c.other;
-  given_one = f c.name c.one c.given_one; given_other = g c.name c.other c.given_other; differ = c.differ;
+  name = c.name;
+  one = c.one;
+  other = c.other;
+  given_one = f c.name c.one c.given_one;
+  given_other = g c.name c.other c.given_other;
+  differ = c.differ;
 }
 
 pub sorted-short : (es : List EntryData) → length es < 2 → IsSortedOf es es

@@ -51,7 +51,7 @@ known-again test xs x e = at (test x) refl (list_any test xs) refl
 set-more : (keys new : List (Bor (List ℕ))) (xs : List (List ℕ)) (x : List ℕ)
     → ((q : List ℕ) → list_any (λ k. is_eq (slice_cmp nat_cmp q k.now)) keys ≡ list_any (λ t. bytes_eq t q) xs)
     → ((q : Bor (List ℕ)) → list_any (λ k. is_eq (slice_cmp nat_cmp q.now k.now)) new
-        ≡ cond (is_eq (slice_cmp nat_cmp x q.now)) true (list_any (λ k. is_eq (slice_cmp nat_cmp q.now k.now)) keys))
+    ≡ cond (is_eq (slice_cmp nat_cmp x q.now)) true (list_any (λ k. is_eq (slice_cmp nat_cmp q.now k.now)) keys))
     → (q : List ℕ) → list_any (λ k. is_eq (slice_cmp nat_cmp q k.now)) new ≡ list_any (λ t. bytes_eq t q) (xs ++ x ∷ [])
 set-more keys new xs x h u q =
     u (record { ref_ptr = (0, 0); now = q })
@@ -69,7 +69,7 @@ knows-none known e q = ap (λ ks. list_any (λ k. is_eq (slice_cmp nat_cmp q k.n
 
 pub knows-more : (known new : BTreeSet (Bor (List ℕ))) (x : List ℕ)
     → ((q : Bor (List ℕ)) → list_any (λ k. is_eq (slice_cmp nat_cmp q.now k.now)) new.keys
-        ≡ cond (is_eq (slice_cmp nat_cmp x q.now)) true (list_any (λ k. is_eq (slice_cmp nat_cmp q.now k.now)) known.keys))
+    ≡ cond (is_eq (slice_cmp nat_cmp x q.now)) true (list_any (λ k. is_eq (slice_cmp nat_cmp q.now k.now)) known.keys))
     → (all : List (List ℕ)) → Knows known all → Knows new (all ++ x ∷ [])
 knows-more known new x u all h = set-more known.keys new.keys all x h u
 

@@ -26,7 +26,7 @@ plus-one k = omega arith
 pub own-at : (es : List OwnData) (k : ℕ) (z : OwnData) → k < length es → z ≡ get_or es k z → drop k es ≡ z ∷ drop (k + 1) es
 own-at es k z h e =
     subst (λ w. drop k es ≡ w ∷ drop (k + 1) es) (sym e)
-      (subst (λ m. drop k es ≡ get_or es k z ∷ drop m es) (plus-one k) (drop-cons es k z h))
+    (subst (λ m. drop k es ≡ get_or es k z ∷ drop m es) (plus-one k) (drop-cons es k z h))
 
 pub next-at : (own : List OwnData) (k : ℕ) (o : OwnData) (ts : List LevelTable) (t : LevelTable) → k < length own → o ≡ get_or own k o
     → SoFar own (drop k own) ts → IsTableOf o.table t → SoFar own (drop (k + 1) own) (ts ++ t ∷ [])

@@ -167,7 +167,7 @@ module _ (files : List FileData) (names : NameData) (resolved : List (Option Res
 
 -- ---- a step down
 
-deep_at : ℕ → Bool
+abbrev deep_at : ℕ → Bool
 deep_at zero = true
 deep_at (suc d) = false
 
@@ -175,7 +175,7 @@ deep-is : (d : ℕ) → nat_eq d 0 ≡ deep_at d
 deep-is zero = refl
 deep-is (suc d) = ne_eqb (suc d) 0 (λ e. absurd (omega (arith, e)))
 
-rest_at : List FileData → ℕ → List ℕ → ℕ → Option Fault
+abbrev rest_at : List FileData → ℕ → List ℕ → ℕ → Option Fault
 rest_at files zero path t = None
 rest_at files (suc d) path t = walk d files path t
 
@@ -287,15 +287,18 @@ module _ (files : List FileData) (names : NameData) (reads : List (Option Read))
             let x : IsBroken files reads d t = g.1 in
             let w : binding_walk files b ≡ rest t
             = walk-is ∙ (ap (λ y. or_else (fault_if y (file_fault rule.B14 name)) (or_else (fault_if closed (file_fault rule.B9 name)) (first_some (fault_below files rest) (includes_from 0 ls)))) s
-            ∙ (ap (λ y. or_else (fault_if y (file_fault rule.B9 name)) (first_some (fault_below files rest) (includes_from 0 ls))) c ∙ g.0)) in
-            (x.left, x.one_less, record {
-              path = k ∷ path;
-              way = way1;
-              walked = subst (λ m. binding_walk files b ≡ rest_at files m (k ∷ path) t) x.one_less w;
-              unclean = x.unclean;
-              none = none-at d k path unclean none x.left x.one_less;
-              read = x.read;
-            })
+            ∙ (ap (λ y. or_else (fault_if y (file_fault rule.B9 name)) (first_some (fault_below files rest) (includes_from 0 ls))) c ∙ g.0)) in (
+              x.left,
+              x.one_less,
+              record {
+                path = k ∷ path;
+                way = way1;
+                walked = subst (λ m. binding_walk files b ≡ rest_at files m (k ∷ path) t) x.one_less w;
+                unclean = x.unclean;
+                none = none-at d k path unclean none x.left x.one_less;
+                read = x.read;
+              },
+            )
 
         at-barred : several ≡ false → (x : Bool) → barred_among names (nat_eq d 0) (items ++ k ∷ []) (map own_level ls) ≡ x
             → StepsTo files reads b d (items ++ k ∷ []) (if x then next.Fault (file_fault rule.B9 name) else down (first_high names resolved d (map own_level ls)))

@@ -83,17 +83,17 @@ mutual
   inj_items end (item v r) p = absurd cc
   inj_items (item v r) end p = absurd cc
   inj_items (item v r) (item w s) p =
-    let first : v ≡ w = inj_value v w cc in
-    let rest : r ≡ s = inj_items r s cc in cc
+      let first : v ≡ w = inj_value v w cc in
+      let rest : r ≡ s = inj_items r s cc in cc
 
   pub inj_pairs : (xs ys : Pairs) → code_pairs xs ≡ code_pairs ys → xs ≡ ys
   inj_pairs last last p = refl
   inj_pairs last (pair k v r) p = absurd cc
   inj_pairs (pair k v r) last p = absurd cc
   inj_pairs (pair k v r) (pair l w s) p =
-    let name : k ≡ l = (coded_list coded_ℕ).inj k l cc in
-    let first : v ≡ w = inj_value v w cc in
-    let rest : r ≡ s = inj_pairs r s cc in cc
+      let name : k ≡ l = (coded_list coded_ℕ).inj k l cc in
+      let first : v ≡ w = inj_value v w cc in
+      let rest : r ≡ s = inj_pairs r s cc in cc
 
 abbrev pub coded_value : Coded Value
 coded_value = record { code = code_value; inj = inj_value }

@@ -87,7 +87,7 @@ BreaksAt files k fault = (binding_walk files k ≡ Some fault)
   where
     Breaks : Type 0
     Breaks = (levels : List LevelTable) × IsMerged files k levels
-      × (merged_rule levels ≡ Some fault.rule) × (fault ≡ file_fault fault.rule (name_of files k))
+        × (merged_rule levels ≡ Some fault.rule) × (fault ≡ file_fault fault.rule (name_of files k))
 
 -- Step three: the first binding for which an earlier one is for the same string and bus.
 abbrev pub twin_fault_from : List FileData → List BindingData → List BindingData → Option Fault

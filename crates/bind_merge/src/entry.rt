@@ -9,9 +9,7 @@ ghost use Rattle.bind_merge.specs.Joining.{joined, inherited};
 ghost use Rattle.bind_merge.specs.Looking.{bare};
 ghost use Rattle.bind_merge.specs.Answering.{AgreesIf};
 
-use crate::same::{
-    agree_lists, agree_names, agree_texts, agree_truths, agree_types, agree_values,
-};
+use crate::same::{agree_lists, agree_names, agree_texts, agree_truths, agree_types, agree_values};
 use crate::shared::{
     SharedNames, SharedText, SharedValue, SharedValues, shared_text, shared_value, shared_values,
 };
@@ -45,15 +43,15 @@ impl Model for Settings {
     ghost coded = { Prim.hlevel (codes, coded_value) };
 
     ghost view = { λ s. record {
-        name = s.name;
-        ty = s.ty;
-        required = s.required;
-        deprecated = s.deprecated;
-        default = s.default;
-        constant = s.constant;
-        choices = s.choices;
-        space = s.space;
-        cells = s.cells
+      name = s.name;
+      ty = s.ty;
+      required = s.required;
+      deprecated = s.deprecated;
+      default = s.default;
+      constant = s.constant;
+      choices = s.choices;
+      space = s.space;
+      cells = s.cells;
     } };
 }
 

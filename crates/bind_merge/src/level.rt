@@ -35,11 +35,11 @@ impl Model for Level {
     ghost coded = { Prim.hlevel (codes, coded_value) };
 
     ghost view = { λ l. record {
-        described = l.described;
-        buses = l.buses;
-        on_bus = l.on_bus;
-        spaces = l.spaces.items;
-        props = l.props.items
+      described = l.described;
+      buses = l.buses;
+      on_bus = l.on_bus;
+      spaces = l.spaces.items;
+      props = l.props.items;
     } };
 }
 
@@ -63,11 +63,7 @@ fn passed_props(
 impl Level {
     /// What an include hands on of the level, by this level of its filter. The one error is want of
     /// memory, as in the other call.
-    pub(crate) fn passed(
-        &self,
-        alloc: Global,
-        filter: Option<&Filter>,
-    ) -> Result<Level, AllocError>
+    pub(crate) fn passed(&self, alloc: Global, filter: Option<&Filter>) -> Result<Level, AllocError>
         ensures { IfOk result (λ l. l ≡ passed (top_filter (filters_of filter.entry)) self.now) }
     {
         Ok(Level {

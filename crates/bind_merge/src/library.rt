@@ -1,10 +1,10 @@
 //! The library of binding files.
 
 use crate::checks::merged_rule;
-use crate::names::Names;
-use crate::reading::{Read, compatible_in, record_of};
 use crate::merging::Resolved;
+use crate::names::Names;
 use crate::reached::read_reached;
+use crate::reading::{Read, compatible_in, record_of};
 use crate::resolve::{none_each, resolve};
 use crate::strings::Strings;
 use crate::view::View;
@@ -78,10 +78,12 @@ impl Library {
     pub fn view<'a>(&'a self, _alloc: Global, file: FileNo) -> Result<View<'a>, AllocError> {
         match &self.loaded {
             Some(loaded) => match &loaded.resolved[file.0 as usize] {
-                Some(Resolved {
-                    levels: Some(levels),
-                    ..
-                }) => Ok(View::of(levels.as_slice())),
+                Some(
+                    Resolved {
+                        levels: Some(levels),
+                        ..
+                    },
+                ) => Ok(View::of(levels.as_slice())),
                 _ => Ok(View::of(&[])),
             },
             None => Ok(View::of(&[])),
@@ -218,11 +220,7 @@ fn bindings(
     }
     bindings.sort_by(|a, b| order(a, &b.compatible, b.bus.as_ref()))?;
     match first_twin(bindings.as_slice()) {
-        Some(file) => Err(End::Fault(file_fault(
-            alloc,
-            Rule::B12,
-            &files[file.0 as usize].0,
-        )?)),
+        Some(file) => Err(End::Fault(file_fault(alloc, Rule::B12, &files[file.0 as usize].0)?)),
         None => Ok(bindings),
     }
 }

@@ -37,8 +37,8 @@ impl Model for Resolved {
     ghost coded = { Prim.hlevel (codes, coded_value) };
 
     ghost view = { λ r. record {
-        height = r.height;
-        levels = option_map (λ v. v.items) r.levels
+      height = r.height;
+      levels = option_map (λ v. v.items) r.levels;
     } };
 }
 

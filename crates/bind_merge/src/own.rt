@@ -37,14 +37,14 @@ impl Model for OwnLevel {
     ghost coded = { Prim.hlevel (codes, coded_value) };
 
     ghost view = { λ l. record {
-        table = record {
-            described = l.described;
-            buses = l.buses;
-            on_bus = l.on_bus;
-            spaces = l.spaces.items;
-            props = l.props.items
-        };
-        includes = map include_of l.includes.items
+      table = record {
+        described = l.described;
+        buses = l.buses;
+        on_bus = l.on_bus;
+        spaces = l.spaces.items;
+        props = l.props.items;
+      };
+      includes = map include_of l.includes.items;
     } };
 }
 
@@ -59,11 +59,7 @@ pub(crate) fn own_levels(alloc: Global, rec: BindingRec) -> Result<Vec<OwnLevel>
 }
 
 // The levels of a record, behind those that are there.
-fn push_levels(
-    alloc: Global,
-    levels: &mut Vec<OwnLevel>,
-    rec: BindingRec,
-) -> Result<(), AllocError>
+fn push_levels(alloc: Global, levels: &mut Vec<OwnLevel>, rec: BindingRec) -> Result<(), AllocError>
     ensures { OnOk result (levels.new.items ≡ levels.old.items ++ map own_level (record_of rec)) }
 {
     let BindingRec {

@@ -56,11 +56,7 @@ fn included_by(
     }
 }
 
-fn included_in(
-    alloc: Global,
-    names: &Names,
-    own: &[OwnLevel],
-) -> Result<Vec<FileNo>, AllocError>
+fn included_in(alloc: Global, names: &Names, own: &[OwnLevel]) -> Result<Vec<FileNo>, AllocError>
     ensures { IfOk result (λ v. v.items ≡ included_in names.now own.now) }
 {
     let mut included = Vec::new(alloc);

@@ -18,10 +18,7 @@ use std::alloc::{AllocError, Global};
 pub(crate) const DEEPEST: u32 = 16;
 
 /// An absent value for each file.
-pub(crate) fn none_each<T: Drop>(
-    alloc: Global,
-    count: usize,
-) -> Result<Vec<Option<T>>, AllocError>
+pub(crate) fn none_each<T: Drop>(alloc: Global, count: usize) -> Result<Vec<Option<T>>, AllocError>
     ensures len { IfOk result (λ v. length v.items ≡ count) }
     ensures none { IfOk result (λ v. AreNone v.items) }
 {
@@ -120,12 +117,7 @@ fn has_height(
     true
 }
 
-fn are_low(
-    names: &Names,
-    includes: &[Include],
-    height: u32,
-    resolved: &[Option<Resolved>],
-) -> bool
+fn are_low(names: &Names, includes: &[Include], height: u32, resolved: &[Option<Resolved>]) -> bool
     ensures { result ≡ list_all (is_low names.now resolved.now height) (map include_of includes.now) }
 {
     for include in includes {

@@ -51,7 +51,10 @@ impl SharedText {
     }
 
     /// The first of two, where there are some. The one error is want of memory.
-    pub(crate) fn first(a: &Option<SharedText>, b: &Option<SharedText>) -> Result<Option<SharedText>, AllocError>
+    pub(crate) fn first(
+        a: &Option<SharedText>,
+        b: &Option<SharedText>,
+    ) -> Result<Option<SharedText>, AllocError>
         ensures { IfOk result (λ s. s ≡ or_else a.now b.now) }
     {
         match a {
@@ -112,7 +115,10 @@ impl SharedNames {
     }
 
     /// The first of two, where there are some. The one error is want of memory.
-    pub(crate) fn first(a: &Option<SharedNames>, b: &Option<SharedNames>) -> Result<Option<SharedNames>, AllocError>
+    pub(crate) fn first(
+        a: &Option<SharedNames>,
+        b: &Option<SharedNames>,
+    ) -> Result<Option<SharedNames>, AllocError>
         ensures { IfOk result (λ s. s ≡ or_else a.now b.now) }
     {
         match a {
@@ -176,7 +182,10 @@ impl SharedValue {
     }
 
     /// The first of two, where there are some. The one error is want of memory.
-    pub(crate) fn first(a: &Option<SharedValue>, b: &Option<SharedValue>) -> Result<Option<SharedValue>, AllocError>
+    pub(crate) fn first(
+        a: &Option<SharedValue>,
+        b: &Option<SharedValue>,
+    ) -> Result<Option<SharedValue>, AllocError>
         ensures { IfOk result (λ s. s ≡ or_else a.now b.now) }
     {
         match a {
@@ -242,7 +251,10 @@ impl SharedValues {
     }
 
     /// The first of two, where there are some. The one error is want of memory.
-    pub(crate) fn first(a: &Option<SharedValues>, b: &Option<SharedValues>) -> Result<Option<SharedValues>, AllocError>
+    pub(crate) fn first(
+        a: &Option<SharedValues>,
+        b: &Option<SharedValues>,
+    ) -> Result<Option<SharedValues>, AllocError>
         ensures { IfOk result (λ s. s ≡ or_else a.now b.now) }
     {
         match a {

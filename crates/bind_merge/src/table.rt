@@ -14,10 +14,7 @@ use std::alloc::{AllocError, Global};
 
 /// What the levels of a file's record say by themselves, in order; None exactly where one says two
 /// values of one key. The one error is want of memory, as in the functions below.
-pub(crate) fn own_tables(
-    alloc: Global,
-    own: &[OwnLevel],
-) -> Result<Option<Vec<Level>>, AllocError>
+pub(crate) fn own_tables(alloc: Global, own: &[OwnLevel]) -> Result<Option<Vec<Level>>, AllocError>
     ensures { IfOk result (λ all. TablesOr own.now (option_map (λ v. v.items) all)) }
 {
     let mut levels = Vec::with_capacity(alloc, own.len())?;
@@ -66,12 +63,7 @@ fn below<'a>(filter: Option<&'a Filter>) -> Option<&'a Filter>
 }
 
 // Adds what a level says; false exactly where two values of one key are said.
-fn add(
-    alloc: Global,
-    levels: &mut Vec<Level>,
-    at: usize,
-    level: Level,
-) -> Result<bool, AllocError>
+fn add(alloc: Global, levels: &mut Vec<Level>, at: usize, level: Level) -> Result<bool, AllocError>
     requires { at ≤ length levels.old.items }
     ensures { IfOk result (λ comes. ComesAt comes levels.old.items at level levels.new.items) }
 {

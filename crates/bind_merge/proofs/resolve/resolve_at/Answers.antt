@@ -9,10 +9,11 @@ loop-at-init c =
 pub loop-at-preserved : goal.loop-at-preserved
 loop-at-preserved c =
     let e : length c.loop-at.resolved.items ≡ length c.args.reads.now = c.loop-at.invariant.0 in
-    let l : c.loop-at.at < length c.loop-at.resolved.items = omega (arith, e) in
-    (resolves_long c.args.names.now c.args.reads.now c.args.height c.loop-at.at c.loop-at.resolved.items c.resolve_one.new.resolved.items c.in_ok-resolve_one.ensures ∙ e,
+    let l : c.loop-at.at < length c.loop-at.resolved.items = omega (arith, e) in (
+      resolves_long c.args.names.now c.args.reads.now c.args.height c.loop-at.at c.loop-at.resolved.items c.resolve_one.new.resolved.items c.in_ok-resolve_one.ensures ∙ e,
       resolves_next c.args.names.now c.args.reads.now c.args.height c.loop-at.at (c.loop-at.at + 1) c.loop-at.resolved.items c.resolve_one.new.resolved.items
-      refl l c.loop-at.invariant.1 c.in_ok-resolve_one.ensures)
+          refl l c.loop-at.invariant.1 c.in_ok-resolve_one.ensures,
+    )
 
 pub returns-clause-now : goal.returns-clause-now
 returns-clause-now c =

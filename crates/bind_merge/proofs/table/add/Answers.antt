@@ -10,8 +10,8 @@ returns-then-at-len c =
     let same : length c.args.levels.now.items ≡ c.args.at = omega arith in
     let items : c.push.new.self.items ≡ c.args.levels.now.items ++ c.args.level ∷ [] = c.in_ok-push.ensures.items in
     subst (λ r. AddsAt c.args.levels.now.items c.args.at c.args.level r) (sym items)
-      (subst (λ n. AddsAt c.args.levels.now.items n c.args.level (c.args.levels.now.items ++ c.args.level ∷ [])) same
-        (adds-end c.args.levels.now.items c.args.level))
+    (subst (λ n. AddsAt c.args.levels.now.items n c.args.level (c.args.levels.now.items ++ c.args.level ∷ [])) same
+    (adds-end c.args.levels.now.items c.args.level))
 
 pub returns-in-Some : goal.returns-in-Some
 returns-in-Some c =

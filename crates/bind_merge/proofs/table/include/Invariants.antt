@@ -9,5 +9,5 @@ abbrev pub invariant-loop-level : goal.invariant-loop-level
 invariant-loop-level l = record {
   next_in : l.next ≤ length l.levels.items;
   comes : (b : Bool) (us : List LevelTable) → Comes b l.levels.items l.next (drop l.level-index l.included) (filters_of l.left) us
-    → Comes b l.initial.levels.items l.at l.included (filter_of l.filter) us;
+      → Comes b l.initial.levels.items l.at l.included (filter_of l.filter) us;
 }

@@ -7,6 +7,6 @@ use Rattle.bind_merge.specs.Inner.Ways.{are_several}
 use Rattle.bind_merge.proofs.walk.any_several.Given as goal
 
 abbrev pub invariant-loop-include : goal.invariant-loop-include
-invariant-loop-include l = 
+invariant-loop-include l =
     list_any (λ (i : IncludeData). are_several (named_in l.names i.name)) (map include_of l.includes)
     ≡ list_any (λ (i : IncludeData). are_several (named_in l.names i.name)) (map include_of (drop l.include-index l.includes))

@@ -7,6 +7,6 @@ use Rattle.bind_merge.specs.Inner.Ways.{high}
 use Rattle.bind_merge.proofs.walk.high_among.Given as goal
 
 abbrev pub invariant-loop-include : goal.invariant-loop-include
-invariant-loop-include l = 
+invariant-loop-include l =
     first_some (λ (i : IncludeData). high l.resolved l.left (named_in l.names i.name)) (map include_of l.includes)
     ≡ first_some (λ (i : IncludeData). high l.resolved l.left (named_in l.names i.name)) (map include_of (drop l.include-index l.includes))

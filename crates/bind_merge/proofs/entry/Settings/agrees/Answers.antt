@@ -9,6 +9,6 @@ returns-then-not-agree_types c =
     let ea : c.self.inside.ty ≡ c.args.self.now.ty = ap (λ (x : EntryData). x.ty) c.self.view_is in
     let eb : c.other.inside.ty ≡ c.args.other.now.ty = ap (λ (x : EntryData). x.ty) c.other.view_is in
     let h : IsTrue c.agree_types.result ↔ AgreeOn c.args.self.now.ty c.args.other.now.ty =
-      subst (λ t. IsTrue c.agree_types.result ↔ AgreeOn c.args.self.now.ty t) eb
-        (subst (λ t. IsTrue c.agree_types.result ↔ AgreeOn t c.other.inside.ty) ea c.agree_types.ensures) in
+    subst (λ t. IsTrue c.agree_types.result ↔ AgreeOn c.args.self.now.ty t) eb
+    (subst (λ t. IsTrue c.agree_types.result ↔ AgreeOn t c.other.inside.ty) ea c.agree_types.ensures) in
     ty_differs c.args.self.now c.args.other.now c.agree_types.result h c.if-not-agree_types.true
