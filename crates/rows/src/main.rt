@@ -13,6 +13,7 @@ mod registers;
 mod runs;
 mod scripts;
 mod source_tokens;
+mod specifiers;
 mod table;
 mod three_nodes;
 mod yaml_values;
@@ -30,6 +31,7 @@ enum Layer {
     DtsParse,
     YamlProfile,
     BindLoad,
+    PhaNexus,
     RegRanges,
     DepOrder,
     CTokens,
@@ -37,12 +39,13 @@ enum Layer {
     EdtRun,
 }
 
-const LAYERS: [Layer; 10] = [
+const LAYERS: [Layer; 11] = [
     Layer::EdtBase,
     Layer::DtsLex,
     Layer::DtsParse,
     Layer::YamlProfile,
     Layer::BindLoad,
+    Layer::PhaNexus,
     Layer::RegRanges,
     Layer::DepOrder,
     Layer::CTokens,
@@ -59,6 +62,7 @@ impl Layer {
             Layer::DtsParse => "dts_parse.rows",
             Layer::YamlProfile => "yaml_profile.rows",
             Layer::BindLoad => "bind_load.rows",
+            Layer::PhaNexus => "pha_nexus.rows",
             Layer::RegRanges => "reg_ranges.rows",
             Layer::DepOrder => "dep_order.rows",
             Layer::CTokens => "c_tokens.rows",
@@ -75,6 +79,7 @@ impl Layer {
             Layer::DtsParse => scripts::answer(alloc, row),
             Layer::YamlProfile => yaml_values::answer(alloc, row),
             Layer::BindLoad => records::answer(alloc, row),
+            Layer::PhaNexus => specifiers::answer(alloc, row),
             Layer::RegRanges => registers::answer(alloc, row),
             Layer::DepOrder => orders::answer(alloc, row),
             Layer::CTokens => c_lines::answer(alloc, row),
