@@ -38,9 +38,9 @@ left_after at o (t ∷ ts) after = left_after (span_of at t).end (behind o t.kin
 
 -- ---- tokens that don't run together
 
--- a byte right after a token that belongs to it, or makes another thing of it: after a word another byte of words, after
--- a number or a pair of digits also a colon; after a slash what makes a comment or a directive of it; in parentheses the
--- second byte of an operator
+-- a byte right after a token that belongs to it, or makes another thing of it: after a word another byte of words,
+-- after a number or a pair of digits also a colon; after a slash what makes a comment or a directive of it; in
+-- parentheses the second byte of an operator
 abbrev pub goes_on : Opened → SpanKind → List ℕ → ℕ → Bool
 goes_on o kind.Name text b = is_word_byte (is_narrow o) b
 goes_on o kind.Number text b = is_word_byte (is_narrow o) b || nat_eq b colon
@@ -64,8 +64,8 @@ abbrev pub begins_hash : List ℕ → Bool
 begins_hash [] = false
 begins_hash (b ∷ rest) = nat_eq b hash
 
--- where so much is open, and before what follows: all its bytes are a token of its kind, with blanks before it, where no
--- line begins with `#`, and without a byte after it that goes on with it
+-- where so much is open, and before what follows: all its bytes are a token of its kind, with blanks before it, where
+-- no line begins with `#`, and without a byte after it that goes on with it
 pub record IsFit (begun : Bool) (o : Opened) (t : Spelling) (after : List ℕ) : Type 0 where
   pub blank : list_all is_blank t.blanks ≡ true
   pub within : (at_line begun t.blanks && begins_hash t.text) ≡ false
