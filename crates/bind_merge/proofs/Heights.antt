@@ -1,5 +1,5 @@
 -- Resolving the files of one height, those below being resolved.
-use Rattle.std.proofs.Common.{◌≡◌, ◌∙◌, sym, ap, subst, refl, ◌+◌, ◌<◌, ◌≤◌, ◌≢◌, ◌&&◌, ◌++◌, ℕ, zero, suc, Bool, true, false, List, [], ◌∷◌, length, map, Option, Some, None, Result, Ok, Err, is_some, nat_lt, nat_eq, arith}
+use Rattle.std.proofs.Common.{◌≡◌, ◌∙◌, sym, ap, subst, refl, ◌+◌, ◌-◌, ◌<◌, ◌≤◌, ◌≢◌, ◌&&◌, ◌++◌, ℕ, zero, suc, Bool, true, false, List, [], ◌∷◌, length, map, Option, Some, None, Result, Ok, Err, is_some, nat_lt, nat_eq, arith}
 use Rattle.std.specs.List.{list_all, slice_get, slice_set}
 use Rattle.std.specs.Option.{option_and_then}
 use Rattle.std.proofs.lemmas.Bool.Decides.{Decides-ltb, Decides-eqb}
@@ -143,7 +143,7 @@ module _ (files : List FileData) (names : NameData) (resolved : List (Option Res
 -- ---- within a depth
 
 clean-up : (files : List FileData) (k a n : ℕ) → is_clean files a k ≡ true → is_clean files (n + a) k ≡ true
-clean-up files k a zero e = e
+clean-up files k a zero e = let s : a ≡ 0 + a = omega arith in subst (λ d. is_clean files d k ≡ true) s e
 clean-up files k a (suc n) e =
     let s : suc (n + a) ≡ suc n + a = omega arith in
     subst (λ d. is_clean files d k ≡ true) s (clean-more (n + a) files k (clean-up files k a n e))
@@ -154,7 +154,7 @@ clean-le files k a d l e =
     subst (λ n. is_clean files n k ≡ true) s (clean-up files k a (d - a) e)
 
 -- the test of the files that a file of height h includes
-test_below : List FileData → ℕ → ℕ → Bool
+abbrev test_below : List FileData → ℕ → ℕ → Bool
 test_below files zero = λ t. false
 test_below files (suc d) = is_clean files d
 

@@ -93,26 +93,26 @@ length-snoc (y ∷ ys) x = let e : length (ys ++ x ∷ []) ≡ length ys + 1 = l
 
 module _ (files : List FileData) (reads : List (Option Read)) (left : List ℕ) (k : ℕ) (r : Read) (l : k < length reads) (none : slice_get reads k ≡ Some None)
     (is : IsReadAt files k r) where
-  more : List (Option Read)
-  more = slice_set reads k (Some r)
+  abbrev pub now_read : List (Option Read)
+  now_read = slice_set reads k (Some r)
 
-  at-other : (j : ℕ) → j ≢ k → read_at more j ≡ read_at reads j
+  at-other : (j : ℕ) → j ≢ k → read_at now_read j ≡ read_at reads j
   at-other j n = ap (option_and_then (λ x. x)) (slice-set-other reads k (Some r) j n)
 
-  at-same : read_at more k ≡ Some r
+  at-same : read_at now_read k ≡ Some r
   at-same = ap (option_and_then (λ x. x)) (slice-set-same reads k (Some r) l)
 
   was-none : read_at reads k ≡ None
   was-none = ap (option_and_then (λ x. x)) none
 
-  pub reads_one : Spreads files reads left more (left ++ k ∷ [])
+  pub reads_one : Spreads files reads left now_read (left ++ k ∷ [])
   reads_one = record {
     kept = λ j x e. at-other j (apart j x e) ∙ e;
     stays = λ j e. among-left left (k ∷ []) j e;
     fresh = λ j e. fresh j e (nat_eq j k) refl;
     sound = λ a j x e. sound a j x e (nat_eq j k) refl;
     long = length-slice-set reads k (Some r);
-    size = let u : unread more + 1 ≡ unread reads = unread-set reads k r none in let v : length (left ++ k ∷ []) ≡ length left + 1 = length-snoc left k in omega (arith, u, v);
+    size = let u : unread now_read + 1 ≡ unread reads = unread-set reads k r none in let v : length (left ++ k ∷ []) ≡ length left + 1 = length-snoc left k in omega (arith, u, v);
   }
     where
       apart : (j : ℕ) (x : Read) → read_at reads j ≡ Some x → j ≢ k
@@ -121,20 +121,20 @@ module _ (files : List FileData) (reads : List (Option Read)) (left : List ℕ) 
       other : (j : ℕ) → nat_eq j k ≡ false → j ≢ k
       other j t s = let u : nat_eq j k ≡ true = (Decides-eqb j k).1 s in cc
 
-      fresh : (j : ℕ) → is_read_at more j ≡ true → (b : Bool) → nat_eq j k ≡ b → (is_read_at reads j ≡ true) ⊎ (is_among (left ++ k ∷ []) j ≡ true)
+      fresh : (j : ℕ) → is_read_at now_read j ≡ true → (b : Bool) → nat_eq j k ≡ b → (is_read_at reads j ≡ true) ⊎ (is_among (left ++ k ∷ []) j ≡ true)
       fresh j e true t = let s : k ≡ j = sym ((Decides-eqb j k).0 t) in inr (subst (λ i. is_among (left ++ k ∷ []) i ≡ true) s (among-last left k))
       fresh j e false t = inl (ap is_some (sym (at-other j (other j t))) ∙ e)
 
-      sound : AreRead files reads → (j : ℕ) (x : Read) → read_at more j ≡ Some x → (b : Bool) → nat_eq j k ≡ b → IsReadAt files j x
+      sound : AreRead files reads → (j : ℕ) (x : Read) → read_at now_read j ≡ Some x → (b : Bool) → nat_eq j k ≡ b → IsReadAt files j x
       sound a j x e true t =
           let s : j ≡ k = (Decides-eqb j k).0 t in
-          let f : read_at more k ≡ Some x = subst (λ i. read_at more i ≡ Some x) s e in
+          let f : read_at now_read k ≡ Some x = subst (λ i. read_at now_read i ≡ Some x) s e in
           let g : Some r ≡ Some x = sym at-same ∙ f in
           let h : r ≡ x = cc in
           subst (λ i. IsReadAt files i x) (sym s) (subst (λ (y : Read). IsReadAt files k y) h is)
       sound a j x e false t = a j x (sym (at-other j (other j t)) ∙ e)
 
-  pub is_read_now : is_read_at more k ≡ true
+  pub is_read_now : is_read_at now_read k ≡ true
   is_read_now = ap is_some at-same
 
 -- ---- what is included is read

@@ -167,7 +167,7 @@ module _ (files : List FileData) (names : NameData) (resolved : List (Option Res
 
 -- ---- a step down
 
-deep_at : ℕ → Bool
+abbrev deep_at : ℕ → Bool
 deep_at zero = true
 deep_at (suc d) = false
 
@@ -175,7 +175,7 @@ deep-is : (d : ℕ) → nat_eq d 0 ≡ deep_at d
 deep-is zero = refl
 deep-is (suc d) = ne_eqb (suc d) 0 (λ e. absurd (omega (arith, e)))
 
-rest_at : List FileData → ℕ → List ℕ → ℕ → Option Fault
+abbrev rest_at : List FileData → ℕ → List ℕ → ℕ → Option Fault
 rest_at files zero path t = None
 rest_at files (suc d) path t = walk d files path t
 

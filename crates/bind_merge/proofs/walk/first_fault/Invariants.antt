@@ -3,4 +3,4 @@ use Rattle.bind_merge.specs.Inner.Ways.{HasCome}
 use Rattle.bind_merge.proofs.walk.first_fault.Given as goal
 
 abbrev pub invariant-loop-depth : goal.invariant-loop-depth
-invariant-loop-depth l = HasCome (read_files l.files) l.reads l.binding l.depth l.file l.path.items
+invariant-loop-depth l = HasCome (read_files l.files) l.reads l.fn.binding l.depth l.file l.path.items
