@@ -65,6 +65,10 @@ module _ (names : NameData) (resolved : List (Option ResolvedData)) where
       let rest : length us ≤ length vs = all-length b us es vs h t in omega arith
   all-length _ _ _ _ (stops ts e es vs x) t = absurd cc
 
+  -- an include that is ready names a file that is resolved
+  pub none-ready : (e : ℕ × IncludeData) → is_ready names resolved e ≡ true → found_by names resolved e ≡ None → ⊥
+  none-ready e t n = let x : false ≡ true = sym (ap is_some n) ∙ t in cc
+
   -- what an include names was merged, and adding its levels answered
   pub brings-if : (b : Bool) (ts : List LevelTable) (e : ℕ × IncludeData) (us : List LevelTable) (found : ResolvedData) (ls : List LevelTable)
       → found_by names resolved e ≡ Some found → found.levels ≡ Some ls → Comes b ts e.0 ls e.1.filter us → BringsIf names resolved b ts e us
