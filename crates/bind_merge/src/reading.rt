@@ -41,7 +41,10 @@ pub(crate) fn read_file(alloc: Global, name: &Text, bytes: &Bytes) -> Result<Rea
     ensures { IfOk result (λ r. IsReadOf r (record_from name.now (reading bytes.now))) }
 {
     match read(alloc, name, bytes.as_slice()) {
-        Ok(value) => record_of(alloc, name, &value),
+        Ok(value) => {
+            let loaded = record_of(alloc, name, &value)?;
+            Ok(loaded)
+        }
         Err(end) => Ok(Read::Bad(fault_of(end)?)),
     }
 }
