@@ -1,2 +1,4 @@
 pub mod SizeLaws
 pub mod SliceLaws
+pub mod SpellLaws
+pub mod StandLaws

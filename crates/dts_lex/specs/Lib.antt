@@ -3,4 +3,5 @@ pub mod Inner
 pub mod Left
 pub mod Names
 pub mod Slices
+pub mod Spelled
 pub mod Tokens

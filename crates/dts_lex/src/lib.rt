@@ -11,5 +11,5 @@ mod punctuators;
 mod token;
 mod words;
 
-pub use laws::tokens_are_slices;
+pub use laws::{spelled_tokens_are_read, tokens_are_slices};
 pub use lexer::{LexFault, Lexer, Span, SpanKind};
