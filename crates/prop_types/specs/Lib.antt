@@ -1,0 +1,5 @@
+pub mod Choices
+pub mod Given
+pub mod Inner
+pub mod Typing
+pub mod Written
