@@ -1,1 +1,4 @@
-pub mod After
+pub mod BrokenLaws
+pub mod PlaceLaws
+pub mod There
+pub mod TypingLaws

@@ -5,14 +5,15 @@ use Rattle.std.specs.Str.{bytes_eq}
 use Rattle.edt_base.specs.Forms.{form_of}
 use Rattle.edt_base.specs.ValData.{ValData, int_val, ints_val, u8s_val, str_val, strs_val}
 use Rattle.edt_base.specs.YamlData.{Value}
-use Rattle.prop_types.specs.Given.{cell_in, byte_in, text_in, all_there}
+use Rattle.prop_types.specs.AllThere.{all_there}
+use Rattle.prop_types.specs.Given.{cell_in, byte_in, text_in}
 
 -- an entry is this number, as the function reads numbers; it is this text
 abbrev pub is_number : (Value → Option ℕ) → ℕ → Value → Bool
 is_number read n entry = option_map_or (nat_eq n) (read entry) false
 
 abbrev pub is_text : List ℕ → Value → Bool
-is_text t entry = option_map_or (bytes_eq t) (text_in entry) false
+is_text t entry = option_map_or (λ e. bytes_eq e t) (text_in entry) false
 
 -- the choice of a value: the place of the first entry that it is, and the value's form
 abbrev pub number_choice : (Value → Option ℕ) → List Value → ℕ → Option (ℕ × List ℕ)

@@ -8,6 +8,7 @@ use Rattle.edt_base.specs.ValData.{ValData, int_val, ints_val, u8s_val, str_val,
 use Rattle.edt_base.specs.YamlData.{Value, a_list, a_text, a_number, item_list}
 use Rattle.edt_base.specs.declared.bound.PropType.{PropType}
 use Rattle.edt_base.specs.declared.bound.PropType.TheVariants as type
+use Rattle.prop_types.specs.AllThere.{all_there}
 
 -- the cell of a number: the number modulo 2^32
 abbrev pub cell_of_number : ℤ → ℕ
@@ -30,15 +31,6 @@ byte_in _ = None
 abbrev pub text_in : Value → Option (List ℕ)
 text_in (a_text t) = Some t
 text_in _ = None
-
--- all of some things that may not be there; None where one isn't
-abbrev pub before : {X : Type 0} → Option X → Option (List X) → Option (List X)
-before (Some x) (Some xs) = Some (x ∷ xs)
-before _ _ = None
-
-abbrev pub all_there : {X : Type 0} → List (Option X) → Option (List X)
-all_there [] = Some []
-all_there (x ∷ xs) = before x (all_there xs)
 
 -- what the items of a list are, each as the function says
 abbrev pub list_in : {X : Type 0} → (Value → Option X) → Value → Option (List X)

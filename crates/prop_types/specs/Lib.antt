@@ -1,3 +1,5 @@
+pub mod AllThere
+pub mod Broken
 pub mod Choices
 pub mod Given
 pub mod Inner

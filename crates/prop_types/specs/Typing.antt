@@ -1,5 +1,5 @@
 -- The typed properties of a node, by what its binding declares; or the first rule that is broken.
-use Rattle.std.specs.Prelude.{◌&&◌, ◌||◌, ◌++◌, ℕ, Bool, true, false, not, List, [], ◌∷◌, Option, Some, None, Result, Ok, Err, codes, filter, is_some, map, nat_eq, option_map, option_and_then, slice_get, if◌then◌else◌}
+use Rattle.std.specs.Prelude.{◌&&◌, ◌||◌, ◌++◌, ℕ, Bool, true, false, not, List, [], ◌∷◌, Option, Some, None, Result, Ok, Err, codes, filter, is_some, nat_eq, option_and_then, slice_get, if◌then◌else◌}
 use Rattle.std.specs.List.{list_any, starts_with, ends_with}
 use Rattle.std.specs.Option.{option_map_or}
 use Rattle.std.specs.Str.{bytes_eq}
@@ -15,7 +15,7 @@ use Rattle.edt_base.specs.declared.fault.Rule.TheVariants as rule
 use Rattle.edt_base.specs.declared.node.Part.{Part}
 use Rattle.prop_types.specs.Choices.{choices_of}
 use Rattle.prop_types.specs.Given.{given, is_constant}
-use Rattle.prop_types.specs.Written.{written, there_or}
+use Rattle.prop_types.specs.Written.{written}
 
 -- a declared property: its name and type, and what the binding says of its value
 pub record DeclaredData : Type 0 where
@@ -45,13 +45,13 @@ with_constant d val choices =
     then Ok (record { name = d.name; ty = d.ty; val = val; choices = choices })
     else Err rule.V14
 
+abbrev pub with_choices : DeclaredData → ValData → Option (List (ℕ × List ℕ)) → Result PropData Rule
+with_choices d val None = Err rule.V13
+with_choices d val (Some choices) = with_constant d val choices
+
 -- the property with its value: V13 where a tested value is no entry of `enum`, then V14
 abbrev pub with_value : DeclaredData → ValData → Result PropData Rule
-with_value d val = choices_then (choices_in d.choices val)
-  where
-    choices_then : Option (List (ℕ × List ℕ)) → Result PropData Rule
-    choices_then None = Err rule.V13
-    choices_then (Some choices) = with_constant d val choices
+with_value d val = with_choices d val (choices_in d.choices val)
 
 abbrev pub as_one : Result PropData Rule → Result (List PropData) Rule
 as_one (Err r) = Err r
@@ -95,17 +95,19 @@ abbrev pub is_free : List ℕ → Bool
 is_free name =
     ends_with nat_eq name (codes "-controller") || starts_with nat_eq name (codes "#") || is_standard name
 
+abbrev pub has_name : List ℕ → DeclaredData → Bool
+has_name name d = bytes_eq d.name name
+
 abbrev pub is_declared : List DeclaredData → List ℕ → Bool
-is_declared ds name = list_any (λ (d : DeclaredData). bytes_eq d.name name) ds
+is_declared ds name = list_any (has_name name) ds
+
+-- a property is neither declared nor free
+abbrev pub is_neither : List DeclaredData → List ℕ × List Part → Bool
+is_neither ds p = not (is_declared ds p.0 || is_free p.0)
 
 -- the node at a place has a property that is neither declared nor free
 abbrev pub has_undeclared : List NodeData → ℕ → List DeclaredData → Bool
-has_undeclared nodes id ds = option_map_or undeclared_in (slice_get nodes id) false
-  where
-    is_neither : List ℕ × List Part → Bool
-    is_neither p = not (is_declared ds p.0 || is_free p.0)
-    undeclared_in : NodeData → Bool
-    undeclared_in n = list_any is_neither n.props
+has_undeclared nodes id ds = option_map_or (λ (n : NodeData). list_any (is_neither ds) n.props) (slice_get nodes id) false
 
 -- the properties that a node without a binding has where they are written, with their types, in byte order
 abbrev pub plain : List ℕ → PropType → DeclaredData

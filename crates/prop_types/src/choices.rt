@@ -1,41 +1,35 @@
 //! Which entries of `enum` a property's values are.
 
-ghost use Rattle.std.specs.Prelude.{◌≡◌, ◌∷◌, [], IfOk, Some, decimal, map, option_map, position};
+ghost use Rattle.std.specs.Prelude.{◌≡◌, ◌∷◌, [], IfOk, decimal, map, option_map};
 ghost use Rattle.edt_base.specs.Forms.{form_of};
 ghost use Rattle.edt_base.specs.ValData.{val_data};
 ghost use Rattle.edt_base.specs.YamlData.{value_of};
-ghost use Rattle.prop_types.specs.Choices.{choices_of, is_number, is_text, number_choice, text_choice};
-ghost use Rattle.prop_types.specs.Given.{all_there, byte_in, cell_in};
-ghost use Rattle.prop_types.specs.Inner.Places.{ArePlaces, AreTextPlaces, number_in};
+ghost use Rattle.prop_types.specs.AllThere.{all_there};
+ghost use Rattle.prop_types.specs.Choices.{choices_of, number_choice, text_choice};
+ghost use Rattle.prop_types.specs.Given.{byte_in, cell_in};
 
 use crate::forms::form;
-use crate::given::{byte_in, cell_in, text_in};
+use crate::places::{Numbers, first_cell, first_text, number_at, number_places, text_at, text_places};
 use edt_base::{Text, Val, Yaml};
 use itoa::Buffer;
 use std::alloc::{AllocError, Global};
-use std::collections::BTreeMap;
 
-/// For each tested value its choice: its place in `enum` and its form.
-pub(crate) type Choices = Vec<(u32, Text)>;
+/// A tested value's place in `enum` and its form.
+type Choice = (u32, Text);
 
-/// How the entries of `enum` are read as numbers.
-#[derive(Clone, Copy)]
-pub(crate) enum Numbers {
-    /// Modulo 2^32.
-    Cells,
-    /// From 0 to 255.
-    Bytes,
-}
+/// The choices of a property's tested values, in order.
+pub(crate) type Choices = Vec<Choice>;
 
 /// The choices of the values that `enum` is tested on: one number or text, or each element; None
 /// where one is no entry. The one error is want of memory, as in the functions below.
+#[tactic(auto, unfolding(crate::specs::Choices::choices_of))]
 pub(crate) fn choices_of(
     alloc: Global,
     entries: &[Yaml],
     value: &Val,
 ) -> Result<Option<Choices>, AllocError>
-    ensures { IfOk result
-        (λ v. option_map (λ c. c.items) v ≡ choices_of (map value_of entries.now) (val_data value.now)) }
+    ensures { IfOk result (λ v. option_map (λ c. c.items) v
+        ≡ choices_of (map value_of entries.now) (val_data value.now)) }
 {
     match value {
         Val::Int(number) => cell_choice(alloc, entries, *number),
@@ -45,53 +39,6 @@ pub(crate) fn choices_of(
         Val::Strs(texts) => text_choices(alloc, entries, texts.as_slice()),
         _ => Ok(Some(Vec::new(alloc))),
     }
-}
-
-// How an entry is read as a number.
-fn number_in(numbers: Numbers, entry: &Yaml) -> Option<u32>
-    ensures { result ≡ number_in numbers (value_of entry.now) }
-{
-    match numbers {
-        Numbers::Cells => cell_in(entry),
-        Numbers::Bytes => byte_in(entry).map(u32::from),
-    }
-}
-
-// For each number the place of the first entry that it is.
-fn number_places(
-    alloc: Global,
-    entries: &[Yaml],
-    numbers: Numbers,
-) -> Result<BTreeMap<u32, usize>, AllocError>
-    ensures { IfOk result (λ m. ArePlaces numbers (map value_of entries.now) m) }
-{
-    let mut places = BTreeMap::new(alloc);
-    let mut left = entries;
-    while let Some((entry, rest)) = left.split_last() {
-        if let Some(number) = number_in(numbers, entry) {
-            places.insert(number, rest.len())?;
-        }
-        left = rest;
-    }
-    Ok(places)
-}
-
-// For each text the place of the first entry that it is.
-fn text_places<'a>(
-    alloc: Global,
-    entries: &'a [Yaml],
-) -> Result<BTreeMap<&'a str, usize>, AllocError>
-    ensures { IfOk result (λ m. AreTextPlaces (map value_of entries.now) m) }
-{
-    let mut places = BTreeMap::new(alloc);
-    let mut left = entries;
-    while let Some((entry, rest)) = left.split_last() {
-        if let Some(text) = text_in(entry) {
-            places.insert(text.as_str(), rest.len())?;
-        }
-        left = rest;
-    }
-    Ok(places)
 }
 
 // A place as a choice has it. A list of 2^32 entries is more than there is memory for.
@@ -105,67 +52,47 @@ fn narrow(at: usize) -> Result<u32, AllocError>
 }
 
 // The choice of a number that is the entry at a place.
-fn number_choice(alloc: Global, at: usize, number: u32) -> Result<(u32, Text), AllocError>
-    ensures { IfOk result (λ c. c ≡ (at, decimal number)) }
+fn number_choice(
+    alloc: Global,
+    at: Option<usize>,
+    number: u32,
+) -> Result<Option<Choice>, AllocError>
+    ensures { IfOk result (λ c. c ≡ option_map (λ k. (k, decimal number)) at.entry) }
 {
+    let Some(at) = at else {
+        return Ok(None);
+    };
     let mut digits = Buffer::new();
     let digits = String::from_str(alloc, digits.format(number))?;
-    Ok((narrow(at)?, Text::new(digits)))
+    Ok(Some((narrow(at)?, Text::new(digits))))
 }
 
 // The choice of a text that is the entry at a place.
-fn text_choice(alloc: Global, at: usize, text: &Text) -> Result<(u32, Text), AllocError>
-    ensures { IfOk result (λ c. c ≡ (at, form_of text.now)) }
+fn text_choice(alloc: Global, at: Option<usize>, text: &Text) -> Result<Option<Choice>, AllocError>
+    ensures { IfOk result (λ c. c ≡ option_map (λ k. (k, form_of text.now)) at.entry) }
 {
-    Ok((narrow(at)?, form(alloc, text)?))
+    let Some(at) = at else {
+        return Ok(None);
+    };
+    Ok(Some((narrow(at)?, form(alloc, text)?)))
 }
 
-// The choice of one cell.
-fn cell_choice(alloc: Global, entries: &[Yaml], cell: u32) -> Result<Option<Choices>, AllocError>
-    ensures { IfOk result (λ v. option_map (λ c. c.items) v ≡ all_there (number_choice cell_in (map value_of entries.now) cell ∷ [])) }
+// One choice, where it is there.
+fn one(alloc: Global, choice: Option<Choice>) -> Result<Option<Choices>, AllocError>
+    ensures { IfOk result (λ v. option_map (λ c. c.items) v ≡ all_there (choice ∷ [])) }
 {
-    match entries.iter().position(|entry| cell_in(entry) == Some(cell)) {
-        Some(at) => Ok(Some(vec![in alloc; number_choice(alloc, at, cell)?]?)),
+    match choice {
+        Some(choice) => Ok(Some(vec![in alloc; choice]?)),
         None => Ok(None),
     }
 }
 
-// The choices of cells.
-fn cell_choices(
-    alloc: Global,
-    entries: &[Yaml],
-    cells: &[u32],
-) -> Result<Option<Choices>, AllocError>
-    ensures { IfOk result (λ v. option_map (λ c. c.items) v ≡ all_there (map (number_choice cell_in (map value_of entries.now)) cells.now)) }
+// The choice of one cell.
+fn cell_choice(alloc: Global, entries: &[Yaml], cell: u32) -> Result<Option<Choices>, AllocError>
+    ensures { IfOk result (λ v. option_map (λ c. c.items) v
+        ≡ all_there (number_choice cell_in (map value_of entries.now) cell ∷ [])) }
 {
-    let places = number_places(alloc, entries, Numbers::Cells)?;
-    let mut choices = Vec::with_capacity(alloc, cells.len())?;
-    for cell in cells {
-        let Some(at) = places.get(cell) else {
-            return Ok(None);
-        };
-        choices.push(number_choice(alloc, *at, *cell)?)?;
-    }
-    Ok(Some(choices))
-}
-
-// The choices of bytes.
-fn byte_choices(
-    alloc: Global,
-    entries: &[Yaml],
-    bytes: &[u8],
-) -> Result<Option<Choices>, AllocError>
-    ensures { IfOk result (λ v. option_map (λ c. c.items) v ≡ all_there (map (number_choice byte_in (map value_of entries.now)) bytes.now)) }
-{
-    let places = number_places(alloc, entries, Numbers::Bytes)?;
-    let mut choices = Vec::with_capacity(alloc, bytes.len())?;
-    for byte in bytes {
-        let Some(at) = places.get(&u32::from(*byte)) else {
-            return Ok(None);
-        };
-        choices.push(number_choice(alloc, *at, u32::from(*byte))?)?;
-    }
-    Ok(Some(choices))
+    one(alloc, number_choice(alloc, first_cell(entries, cell), cell)?)
 }
 
 // The choice of one text.
@@ -174,29 +101,72 @@ fn one_text_choice(
     entries: &[Yaml],
     text: &Text,
 ) -> Result<Option<Choices>, AllocError>
-    ensures { IfOk result (λ v. option_map (λ c. c.items) v ≡ all_there (text_choice (map value_of entries.now) text.now ∷ [])) }
+    ensures { IfOk result (λ v. option_map (λ c. c.items) v
+        ≡ all_there (text_choice (map value_of entries.now) text.now ∷ [])) }
 {
-    match entries.iter().position(|entry| text_in(entry) == Some(text)) {
-        Some(at) => Ok(Some(vec![in alloc; text_choice(alloc, at, text)?]?)),
-        None => Ok(None),
+    one(alloc, text_choice(alloc, first_text(entries, text), text)?)
+}
+
+// The choices of cells.
+#[tactic(auto, using(crate::proofs::There::after_next, crate::proofs::There::after_nothing))]
+fn cell_choices(
+    alloc: Global,
+    entries: &[Yaml],
+    cells: &[u32],
+) -> Result<Option<Choices>, AllocError>
+    ensures { IfOk result (λ v. option_map (λ c. c.items) v
+        ≡ all_there (map (number_choice cell_in (map value_of entries.now)) cells.now)) }
+{
+    let places = number_places(alloc, entries, Numbers::Cells)?;
+    let mut choices = Vec::with_capacity(alloc, cells.len())?;
+    for cell in cells {
+        match number_choice(alloc, number_at(&places, *cell), *cell)? {
+            Some(choice) => choices.push(choice)?,
+            None => return Ok(None),
+        }
     }
+    Ok(Some(choices))
+}
+
+// The choices of bytes.
+#[tactic(auto, using(crate::proofs::There::after_next, crate::proofs::There::after_nothing))]
+fn byte_choices(
+    alloc: Global,
+    entries: &[Yaml],
+    bytes: &[u8],
+) -> Result<Option<Choices>, AllocError>
+    ensures { IfOk result (λ v. option_map (λ c. c.items) v
+        ≡ all_there (map (number_choice byte_in (map value_of entries.now)) bytes.now)) }
+{
+    let places = number_places(alloc, entries, Numbers::Bytes)?;
+    let mut choices = Vec::with_capacity(alloc, bytes.len())?;
+    for byte in bytes {
+        let number = u32::from(*byte);
+        match number_choice(alloc, number_at(&places, number), number)? {
+            Some(choice) => choices.push(choice)?,
+            None => return Ok(None),
+        }
+    }
+    Ok(Some(choices))
 }
 
 // The choices of texts.
+#[tactic(auto, using(crate::proofs::There::after_next, crate::proofs::There::after_nothing))]
 fn text_choices(
     alloc: Global,
     entries: &[Yaml],
     texts: &[Text],
 ) -> Result<Option<Choices>, AllocError>
-    ensures { IfOk result (λ v. option_map (λ c. c.items) v ≡ all_there (map (text_choice (map value_of entries.now)) texts.now)) }
+    ensures { IfOk result (λ v. option_map (λ c. c.items) v
+        ≡ all_there (map (text_choice (map value_of entries.now)) texts.now)) }
 {
     let places = text_places(alloc, entries)?;
     let mut choices = Vec::with_capacity(alloc, texts.len())?;
     for text in texts {
-        let Some(at) = places.get(text.as_str()) else {
-            return Ok(None);
-        };
-        choices.push(text_choice(alloc, *at, text)?)?;
+        match text_choice(alloc, text_at(&places, text.as_str()), text)? {
+            Some(choice) => choices.push(choice)?,
+            None => return Ok(None),
+        }
     }
     Ok(Some(choices))
 }

@@ -3,13 +3,14 @@
 ghost use Rattle.std.specs.Prelude.{◌≡◌, IfOk, map, option_map};
 ghost use Rattle.edt_base.specs.ValData.{val_data};
 ghost use Rattle.edt_base.specs.YamlData.{value_of};
-ghost use Rattle.prop_types.specs.Given.{all_there, byte_in, byte_of_number, cell_in, cell_of_number, given, is_constant, list_in, same_val, text_in};
+ghost use Rattle.prop_types.specs.Given.{byte_in, byte_of_number, cell_in, cell_of_number, given, is_constant, list_in, same_val, text_in};
 
 use edt_base::{Bytes, PropType, Text, Val, Yaml};
 use std::alloc::{AllocError, Global};
 
 /// The value that a binding gives to a property of this type; None for a value of another form, and
 /// for a type that has none. The one error is want of memory, as in the functions below.
+#[tactic(auto, unfolding(crate::specs::Given::given))]
 pub(crate) fn given(alloc: Global, ty: PropType, value: &Yaml) -> Result<Option<Val>, AllocError>
     ensures { IfOk result (λ v. option_map val_data v ≡ given ty (value_of value.now)) }
 {
@@ -63,6 +64,7 @@ pub(crate) fn text_in(value: &Yaml) -> Option<&Text>
     }
 }
 
+#[tactic(auto, using(crate::proofs::There::after_next, crate::proofs::There::after_nothing))]
 fn cells_in(alloc: Global, value: &Yaml) -> Result<Option<Vec<u32>>, AllocError>
     ensures { IfOk result (λ v. option_map (λ c. c.items) v ≡ list_in cell_in (value_of value.now)) }
 {
@@ -79,6 +81,7 @@ fn cells_in(alloc: Global, value: &Yaml) -> Result<Option<Vec<u32>>, AllocError>
     Ok(Some(cells))
 }
 
+#[tactic(auto, using(crate::proofs::There::after_next, crate::proofs::There::after_nothing))]
 fn bytes_in(alloc: Global, value: &Yaml) -> Result<Option<Bytes>, AllocError>
     ensures { IfOk result (λ v. v ≡ list_in byte_in (value_of value.now)) }
 {
@@ -95,6 +98,7 @@ fn bytes_in(alloc: Global, value: &Yaml) -> Result<Option<Bytes>, AllocError>
     Ok(Some(Bytes::new(bytes)))
 }
 
+#[tactic(auto, using(crate::proofs::There::after_next, crate::proofs::There::after_nothing))]
 fn texts_in(alloc: Global, value: &Yaml) -> Result<Option<Vec<Text>>, AllocError>
     ensures { IfOk result (λ v. option_map (λ t. t.items) v ≡ list_in text_in (value_of value.now)) }
 {

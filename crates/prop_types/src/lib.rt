@@ -4,5 +4,12 @@
 mod choices;
 mod forms;
 mod given;
+mod laws;
+mod places;
 mod properties;
+mod typing;
 mod written;
+
+pub use laws::declared_properties_are_typed;
+pub use properties::Declared;
+pub use typing::typed_as_declared;

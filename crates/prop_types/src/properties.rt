@@ -1,13 +1,13 @@
 //! The properties that a binding declares, typed.
 
-ghost use Rattle.std.specs.Prelude.{◌≡◌, ◌<◌, IfErr, IfOk, Ok, length, map, option_map};
-ghost use Rattle.std.specs.Option.{option_to_list};
-ghost use Rattle.edt_base.specs.Nodes.{is_okay, path_at};
+ghost use Rattle.std.specs.Prelude.{◌≡◌, ◌++◌, ◌<◌, IfErr, IfOk, OnOk, Ok, length, map, option_map, true};
+ghost use Rattle.std.specs.Option.{option_map_or, option_to_list};
 ghost use Rattle.edt_base.specs.Refusals.{IsStop};
 ghost use Rattle.edt_base.specs.ValData.{val_data};
 ghost use Rattle.edt_base.specs.YamlData.{value_of};
+ghost use Rattle.prop_types.specs.Given.{is_constant};
 ghost use Rattle.prop_types.specs.Inner.Seen.{seen};
-ghost use Rattle.prop_types.specs.Typing.{choices_in, is_free, is_standard, typed_all, typed_one, unwritten, with_value};
+ghost use Rattle.prop_types.specs.Typing.{choices_in, typed_all, typed_one, unwritten, with_value};
 
 use crate::choices::{Choices, choices_of};
 use crate::given::{given, is_constant};
@@ -16,19 +16,26 @@ use edt_base::{NodeId, Prop, PropType, PropVal, Rule, Stop, Text, Tree, Val, Yam
 use std::alloc::{AllocError, Global};
 
 /// A property that a binding declares, with what it says of the value.
-#[derive(Drop)]
-pub(crate) struct Declared<'a> {
-    pub(crate) name: &'a str,
-    pub(crate) ty: PropType,
-    pub(crate) required: bool,
-    pub(crate) default: Option<&'a Yaml>,
-    pub(crate) constant: Option<&'a Yaml>,
-    pub(crate) choices: Option<&'a [Yaml]>,
+#[derive(Clone, Copy)]
+pub struct Declared<'a> {
+    /// The name.
+    pub name: &'a str,
+    /// The type.
+    pub ty: PropType,
+    /// Whether an okay node has to have it.
+    pub required: bool,
+    /// `default`: its value where it isn't written.
+    pub default: Option<&'a Yaml>,
+    /// `const`: the only value that it may have.
+    pub constant: Option<&'a Yaml>,
+    /// `enum`: what each tested value has to be one of.
+    pub choices: Option<&'a [Yaml]>,
 }
 
 /// The declared properties of a node, in order. Broken by the first rule of the first property that
 /// breaks one: V11 and V20 where its value isn't of its type, V10 where it isn't written though an
 /// okay node has to have it, V13 where a value is no entry of `enum`, V14 where it isn't `const`.
+#[tactic(auto, using(crate::proofs::TypingLaws::joined_next, crate::proofs::TypingLaws::joined_nothing, crate::proofs::TypingLaws::joined_whole))]
 pub(crate) fn typed_all(
     alloc: Global,
     t: &Tree,
@@ -42,11 +49,22 @@ pub(crate) fn typed_all(
     let okay = t.is_okay(id);
     let mut props = Vec::new(alloc);
     for property in declared {
-        if let Some(prop) = typed_one(alloc, t, okay, property, t.prop(id, property.name))? {
-            props.push(prop)?;
-        }
+        let prop = typed_one(alloc, t, okay, property, t.prop(id, property.name))?;
+        push_some(&mut props, prop)?;
     }
     Ok(props)
+}
+
+fn push_some(props: &mut Vec<Prop>, prop: Option<Prop>) -> Result<(), AllocError>
+    ensures { OnOk result (props.new.items ≡ props.old.items ++ option_to_list prop) }
+{
+    match prop {
+        Some(prop) => {
+            props.push(prop)?;
+            Ok(())
+        }
+        None => Ok(()),
+    }
 }
 
 // A declared property of a node; None where it isn't written and has no default.
@@ -57,23 +75,28 @@ fn typed_one(
     declared: &Declared<'_>,
     value: Option<&PropVal>,
 ) -> Result<Option<Prop>, Stop>
-    ensures is { IfOk result (λ p. typed_one t.now.nodes okay (seen declared.now) (option_map (λ v. v.now) value.entry) ≡ Ok (option_to_list p)) }
-    ensures stop { IfErr result (IsStop (typed_one t.now.nodes okay (seen declared.now) (option_map (λ v. v.now) value.entry))) }
+    ensures is { IfOk result (λ p. typed_one t.now.nodes okay (seen declared.now)
+        (option_map (λ v. v.now) value.entry) ≡ Ok (option_to_list p)) }
+    ensures stop { IfErr result (IsStop (typed_one t.now.nodes okay (seen declared.now)
+        (option_map (λ v. v.now) value.entry))) }
 {
-    let val = match value {
-        Some(value) => Some(written(alloc, t, declared.ty, value)?),
-        None if okay && declared.required => return Err(Stop::Broken(Rule::V10)),
-        None => unwritten(alloc, declared)?,
-    };
-    match val {
-        Some(val) => Ok(Some(with_value(alloc, declared, val)?)),
-        None => Ok(None),
+    match value {
+        Some(value) => {
+            let val = written(alloc, t, declared.ty, value)?;
+            Ok(Some(with_value(alloc, declared, val)?))
+        }
+        None if okay && declared.required => Err(Stop::Broken(Rule::V10)),
+        None => match unwritten(alloc, declared)? {
+            Some(val) => Ok(Some(with_value(alloc, declared, val)?)),
+            None => Ok(None),
+        },
     }
 }
 
 // The value of a property that isn't written: its default; a boolean's is 0.
 fn unwritten(alloc: Global, declared: &Declared<'_>) -> Result<Option<Val>, AllocError>
-    ensures { IfOk result (λ v. option_map val_data v ≡ unwritten declared.now.ty (seen declared.now).default) }
+    ensures { IfOk result (λ v. option_map val_data v
+        ≡ unwritten declared.now.ty (seen declared.now).default) }
 {
     match (declared.ty, declared.default) {
         (PropType::Boolean, _) => Ok(Some(Val::Bool(false))),
@@ -90,10 +113,8 @@ fn with_value(alloc: Global, declared: &Declared<'_>, val: Val) -> Result<Prop, 
     let Some(choices) = choices_in(alloc, declared.choices, &val)? else {
         return Err(Stop::Broken(Rule::V13));
     };
-    if let Some(wanted) = declared.constant {
-        if !is_constant(alloc, declared.ty, wanted, &val)? {
-            return Err(Stop::Broken(Rule::V14));
-        }
+    if !is_as_wanted(alloc, declared, &val)? {
+        return Err(Stop::Broken(Rule::V14));
     }
     Ok(Prop {
         name: Text::new(String::from_str(alloc, declared.name)?),
@@ -110,7 +131,8 @@ fn choices_in(
     entries: Option<&[Yaml]>,
     val: &Val,
 ) -> Result<Option<Choices>, AllocError>
-    ensures { IfOk result (λ v. option_map (λ c. c.items) v ≡ choices_in (option_map (λ e. map value_of e.now) entries.entry) (val_data val.now)) }
+    ensures { IfOk result (λ v. option_map (λ c. c.items) v
+        ≡ choices_in (option_map (λ e. map value_of e.now) entries.entry) (val_data val.now)) }
 {
     match entries {
         Some(entries) => choices_of(alloc, entries, val),
@@ -118,22 +140,13 @@ fn choices_in(
     }
 }
 
-/// Whether a node may have a property of this name though its binding doesn't declare it.
-pub(crate) fn is_free(name: &str) -> bool
-    ensures { result ≡ is_free name.now }
+// Whether a value is `const`, where the binding has one.
+fn is_as_wanted(alloc: Global, declared: &Declared<'_>, val: &Val) -> Result<bool, AllocError>
+    ensures { IfOk result (λ is. is ≡ option_map_or
+        (λ c. is_constant declared.now.ty c (val_data val.now)) (seen declared.now).constant true) }
 {
-    name.ends_with("-controller") || name.starts_with('#') || is_standard(name)
-}
-
-// The name of a property that every node may have.
-fn is_standard(name: &str) -> bool
-    ensures { result ≡ is_standard name.now }
-{
-    name == "compatible"
-        || name == "status"
-        || name == "ranges"
-        || name == "phandle"
-        || name == "interrupt-parent"
-        || name == "interrupts-extended"
-        || name == "device_type"
+    match declared.constant {
+        Some(wanted) => is_constant(alloc, declared.ty, wanted, val),
+        None => Ok(true),
+    }
 }

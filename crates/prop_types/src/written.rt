@@ -1,16 +1,18 @@
 //! The value of a property that is written, by its type.
 
-ghost use Rattle.std.specs.Prelude.{◌≡◌, IfErr, IfOk, Ok, option_map, slice_get, drop};
+ghost use Rattle.std.specs.Prelude.{◌≡◌, IfErr, IfOk, Ok, Some, option_map};
 ghost use Rattle.edt_base.specs.Cells.{cells_of};
 ghost use Rattle.edt_base.specs.Refusals.{IsStop};
 ghost use Rattle.edt_base.specs.ValData.{val_data};
-ghost use Rattle.prop_types.specs.Written.{are_bytes, are_cells, named_node, named_path, node_of_phandle, nodes_of_phandles, phandle_value, written};
+ghost use Rattle.prop_types.specs.Written.{are_bytes, are_cells, named_node, named_path, node_of_phandle, nodes_of_phandles, phandle_value, there_or, written};
+ghost use Rattle.edt_base.specs.declared.fault.Rule.TheVariants as rule;
 
 use edt_base::{Cells, Kind, NodeId, Part, PropType, PropVal, Rule, Stop, Text, Tree, Val};
 use std::alloc::{AllocError, Global};
 
 /// The value of a property of this type. Broken where it is of the wrong kind, which is V11, or where
 /// a cell is no node's phandle, which is V20.
+#[tactic(auto, unfolding(crate::specs::Written::written))]
 pub(crate) fn written(
     alloc: Global,
     t: &Tree,
@@ -70,8 +72,9 @@ fn text(alloc: Global, string: &str) -> Result<Text, AllocError>
 
 // The node of a phandle; V20 where there is none.
 fn node_of_phandle(t: &Tree, cell: u32) -> Result<NodeId, Stop>
-    ensures is { IfOk result (λ id. node_of_phandle t.now.nodes cell ≡ Ok id) }
-    ensures stop { IfErr result (IsStop (node_of_phandle t.now.nodes cell)) }
+    ensures is { IfOk result (λ id. node_of_phandle t.now.nodes cell ≡ Some id) }
+    ensures stop { IfErr result
+        (IsStop (there_or rule.V20 (node_of_phandle t.now.nodes cell))) }
 {
     match t.by_phandle(cell) {
         Some(id) => Ok(id),
@@ -80,10 +83,12 @@ fn node_of_phandle(t: &Tree, cell: u32) -> Result<NodeId, Stop>
 }
 
 // The nodes of the phandles that are left, in order; V20 where there is none.
+#[tactic(auto, using(crate::proofs::There::after_next, crate::proofs::There::after_nothing))]
 fn nodes_of_phandles(alloc: Global, t: &Tree, cells: Cells<'_>) -> Result<Vec<NodeId>, Stop>
     ensures is { IfOk result
-        (λ ids. nodes_of_phandles t.now.nodes (cells_of cells.entry) ≡ Ok ids.items) }
-    ensures stop { IfErr result (IsStop (nodes_of_phandles t.now.nodes (cells_of cells.entry))) }
+        (λ ids. nodes_of_phandles t.now.nodes (cells_of cells.entry) ≡ Some ids.items) }
+    ensures stop { IfErr result
+        (IsStop (there_or rule.V20 (nodes_of_phandles t.now.nodes (cells_of cells.entry)))) }
 {
     let mut cells = cells;
     let mut ids = Vec::new(alloc);

@@ -1,0 +1,23 @@
+//! Laws of typed properties, each the contract of a function without a body.
+
+ghost use Rattle.std.specs.Prelude.{◌≡◌, ℕ, List, Ok, Err};
+ghost use Rattle.edt_base.specs.NodeData.{NodeData};
+ghost use Rattle.edt_base.specs.PropData.{PropData};
+ghost use Rattle.edt_base.specs.declared.fault.Rule.{Rule};
+ghost use Rattle.prop_types.specs.Broken.{ArePropsOf, IsFirstBroken};
+ghost use Rattle.prop_types.specs.Typing.{DeclaredData, typed_all};
+
+/// Declared properties are typed exactly where none of them breaks a rule, and then they are in order
+/// those that have a value, each with the value and its choices. Else the rule that is told is broken
+/// by the first of them that breaks one, and is the first of V11, V20, V10, V13 and V14 that this one
+/// breaks, each said without the others.
+pub fn declared_properties_are_typed()
+    ensures typed { (nodes : List NodeData) (id : ℕ) (ds : List DeclaredData) (props : List PropData)
+        → typed_all nodes id ds ≡ Ok props → ArePropsOf nodes id ds props }
+    ensures each_typed { (nodes : List NodeData) (id : ℕ) (ds : List DeclaredData)
+        (props : List PropData) → ArePropsOf nodes id ds props → typed_all nodes id ds ≡ Ok props }
+    ensures broken { (nodes : List NodeData) (id : ℕ) (ds : List DeclaredData) (r : Rule)
+        → typed_all nodes id ds ≡ Err r → IsFirstBroken nodes id ds r }
+    ensures each_broken { (nodes : List NodeData) (id : ℕ) (ds : List DeclaredData) (r : Rule)
+        → IsFirstBroken nodes id ds r → typed_all nodes id ds ≡ Err r }
+{}

@@ -1,0 +1,211 @@
+//! The typed properties of a node.
+
+ghost use Rattle.std.specs.Prelude.{◌≡◌, ◌||◌, ◌++◌, ◌∷◌, ◌<◌, [], IfErr, IfOk, OnOk, List, Ok, filter, is_some, length, map, not, option_map, ℕ, if◌then◌else◌};
+ghost use Rattle.std.specs.List.{list_any};
+ghost use Rattle.edt_base.specs.Nodes.{path_at};
+ghost use Rattle.edt_base.specs.Refusals.{IsRefused, IsStop};
+ghost use Rattle.edt_base.specs.declared.node.Part.{Part};
+ghost use Rattle.prop_types.specs.Inner.Places.{AreNamePlaces, text_at};
+ghost use Rattle.prop_types.specs.Inner.Seen.{seen};
+ghost use Rattle.prop_types.specs.Typing.{is_free, is_neither, is_standard, is_written, plain, plain_ones, typed_of};
+
+use crate::places::text_at;
+use crate::properties::{Declared, typed_all};
+use edt_base::{End, NodeId, NodeRec, PropType, Rule, Stop, Tree, Prop};
+use std::alloc::{AllocError, Global};
+use std::collections::BTreeMap;
+
+/// The typed properties of a node whose binding declares these, which stand in byte order of their
+/// names, or that has no binding (Zephyr 3.7, "Devicetree bindings syntax"). The node's place must
+/// be below the number of nodes. A phandle-array comes with no entries.
+///
+/// A declared property that is written has the value that its parts have as its type; one that isn't
+/// has its `default`, and a boolean is then 0; one without any is left out. A node without a binding
+/// has of `compatible`, `status`, `label`, `reg`, `reg-names`, `interrupts`, `interrupt-names` and
+/// `interrupt-controller` those that are written.
+///
+/// The fault is told at the node, and is the first of these. V12 where the node has a property that
+/// isn't declared, but for one that ends `-controller`, begins `#` or is one that each node may have.
+/// Then by declared property: V11 where its value is of the wrong kind, V20 where a cell is no node's
+/// phandle; V10 where it isn't written, though it has to be and the node is okay; V13 where a value,
+/// or an element of it, is no entry of `enum`; V14 where it isn't `const`. The last two are tested on
+/// a default too.
+///
+/// Takes time n log n in the properties and their bytes and in the entries of `enum`.
+pub fn typed_as_declared(
+    alloc: Global,
+    t: &Tree,
+    id: NodeId,
+    declared: Option<&[Declared<'_>]>,
+) -> Result<Vec<Prop>, End>
+    requires { id < length t.now.nodes }
+    ensures is { IfOk result (λ v. typed_of t.now.nodes id
+        (option_map (λ d. map seen d.now) declared.entry) ≡ Ok v.items) }
+    ensures refused { IfErr result (IsRefused (typed_of t.now.nodes id
+        (option_map (λ d. map seen d.now) declared.entry)) (path_at t.now.nodes id)) }
+{
+    match typed_of(alloc, t, id, declared) {
+        Ok(props) => Ok(props),
+        Err(stop) => Err(t.node(id).told(alloc, stop)),
+    }
+}
+
+// The same without the place of a fault.
+#[tactic(auto, unfolding(crate::specs::Typing::typed_of))]
+fn typed_of(
+    alloc: Global,
+    t: &Tree,
+    id: NodeId,
+    declared: Option<&[Declared<'_>]>,
+) -> Result<Vec<Prop>, Stop>
+    requires { id < length t.now.nodes }
+    ensures is { IfOk result (λ v. typed_of t.now.nodes id
+        (option_map (λ d. map seen d.now) declared.entry) ≡ Ok v.items) }
+    ensures stop { IfErr result (IsStop (typed_of t.now.nodes id
+        (option_map (λ d. map seen d.now) declared.entry))) }
+{
+    match declared {
+        Some(declared) => {
+            if has_undeclared(alloc, t.node(id), declared)? {
+                return Err(Stop::Broken(Rule::V12));
+            }
+            typed_all(alloc, t, id, declared)
+        }
+        None => {
+            let plain = plain_ones(alloc, t, id)?;
+            typed_all(alloc, t, id, plain.as_slice())
+        }
+    }
+}
+
+// Whether a node has a property that is neither declared nor free.
+fn has_undeclared(
+    alloc: Global,
+    node: &NodeRec,
+    declared: &[Declared<'_>],
+) -> Result<bool, AllocError>
+    ensures { IfOk result
+        (λ has. has ≡ list_any (is_neither (map seen declared.now)) node.now.props) }
+{
+    let places = name_places(alloc, declared)?;
+    Ok(has_neither(node, &places))
+}
+
+// For each name the place of the first declared property of this name.
+#[tactic(auto, using(crate::proofs::PlaceLaws::or_none))]
+fn name_places<'a>(
+    alloc: Global,
+    declared: &[Declared<'a>],
+) -> Result<BTreeMap<&'a str, usize>, AllocError>
+    ensures { IfOk result (λ m. AreNamePlaces (map seen declared.now) m) }
+{
+    let mut places = BTreeMap::new(alloc);
+    let mut left = declared;
+    while let Some((property, rest)) = left.split_last() {
+        places.insert(property.name, rest.len())?;
+        left = rest;
+    }
+    Ok(places)
+}
+
+// Whether a node has a property that has no place and isn't free.
+fn has_neither(node: &NodeRec, places: &BTreeMap<&str, usize>) -> bool
+    ensures { result ≡ list_any (λ (p : List ℕ × List Part).
+        not (is_some (text_at places.now p.0) || is_free p.0)) node.now.props }
+{
+    for (name, _) in node.props.iter() {
+        if text_at(places, name.as_str()).is_none() && !is_free(name.as_str()) {
+            return true;
+        }
+    }
+    false
+}
+
+// Whether a node may have a property of this name though its binding doesn't declare it.
+fn is_free(name: &str) -> bool
+    ensures { result ≡ is_free name.now }
+{
+    name.ends_with("-controller") || name.starts_with('#') || is_standard(name)
+}
+
+// The name of a property that each node may have.
+fn is_standard(name: &str) -> bool
+    ensures { result ≡ is_standard name.now }
+{
+    name == "compatible"
+        || name == "status"
+        || name == "ranges"
+        || name == "phandle"
+        || name == "interrupt-parent"
+        || name == "interrupts-extended"
+        || name == "device_type"
+}
+
+// The written ones of the properties that a node without a binding has, in byte order.
+fn plain_ones(
+    alloc: Global,
+    t: &Tree,
+    id: NodeId,
+) -> Result<Vec<Declared<'static>>, AllocError>
+    requires { id < length t.now.nodes }
+    ensures { IfOk result (λ v. map seen v.items ≡ filter (is_written t.now.nodes id) plain_ones) }
+{
+    let ones = [
+        plain("compatible", PropType::StrArray),
+        plain("interrupt-controller", PropType::Boolean),
+        plain("interrupt-names", PropType::StrArray),
+        plain("interrupts", PropType::Array),
+        plain("label", PropType::Str),
+        plain("reg", PropType::Array),
+        plain("reg-names", PropType::StrArray),
+        plain("status", PropType::Str),
+    ];
+    written_ones(alloc, t, id, &ones)
+}
+
+// A property of which only the type is declared.
+fn plain(name: &str, ty: PropType) -> Declared<'_>
+    ensures { seen result ≡ plain name.now ty }
+{
+    Declared {
+        name,
+        ty,
+        required: false,
+        default: None,
+        constant: None,
+        choices: None,
+    }
+}
+
+// Those of some declared properties that are written.
+fn written_ones<'a>(
+    alloc: Global,
+    t: &Tree,
+    id: NodeId,
+    ones: &[Declared<'a>],
+) -> Result<Vec<Declared<'a>>, AllocError>
+    requires { id < length t.now.nodes }
+    ensures { IfOk result
+        (λ v. map seen v.items ≡ filter (is_written t.now.nodes id) (map seen ones.now)) }
+{
+    let mut written = Vec::with_capacity(alloc, ones.len())?;
+    for one in ones {
+        push_if(&mut written, *one, t.prop(id, one.name).is_some())?;
+    }
+    Ok(written)
+}
+
+fn push_if<'a>(
+    list: &mut Vec<Declared<'a>>,
+    one: Declared<'a>,
+    is: bool,
+) -> Result<(), AllocError>
+    ensures { OnOk result (list.new.items ≡ list.old.items ++ (if is then one ∷ [] else [])) }
+{
+    if is {
+        list.push(one)?;
+        Ok(())
+    } else {
+        Ok(())
+    }
+}
