@@ -1,10 +1,11 @@
 -- Declared properties that are typed one after another.
-use Rattle.std.proofs.Common.{◌≡◌, ◌++◌, Bool, true, false, List, [], ◌∷◌, Option, Some, None, Result, Ok, Err, filter, is_some, map, ap, sym, refl, ◌∙◌, ◌||◌, not, if◌then◌else◌}
+use Rattle.std.proofs.Common.{◌≡◌, ◌++◌, ℕ, Bool, true, false, List, [], ◌∷◌, Option, Some, None, Result, Ok, Err, filter, is_some, map, ap, sym, refl, ◌∙◌, ◌||◌, not, if◌then◌else◌}
 use Rattle.std.proofs.lemmas.List.{append_assoc}
 use Rattle.std.specs.List.{list_any}
 use Rattle.edt_base.specs.PropData.{PropData}
 use Rattle.edt_base.specs.declared.fault.Rule.{Rule}
-use Rattle.prop_types.specs.Typing.{joined}
+use Rattle.std.specs.Str.{bytes_eq}
+use Rattle.prop_types.specs.Typing.{DeclaredData, is_declared, joined}
 
 pub joined_nothing : (r : Result (List PropData) Rule) → joined (Ok []) r ≡ r
 joined_nothing (Err r) = refl
@@ -39,3 +40,14 @@ one_more f test xs new x false rest whole t n w = ap (λ ys. map f ys ++ filter 
     nothing : {X : Type 0} (xs : List X) → xs ++ [] ≡ xs
     nothing [] = refl
     nothing (x ∷ xs) = ap (λ ys. x ∷ ys) (nothing xs)
+
+-- one more name in a table of names
+pub name_added : {X : Type 0} (t name : List ℕ) (old new : Option X) (x : X) (d : DeclaredData) (rest : List DeclaredData) (whole : Bool)
+    → new ≡ (if bytes_eq name t then Some x else old) → d.name ≡ name → (is_some old || is_declared (d ∷ rest) t) ≡ whole → (is_some new || is_declared rest t) ≡ whole
+name_added t name old new x d rest whole n e w =
+    ap (λ o. is_some o || is_declared rest t) n ∙ go (bytes_eq name t) old (is_declared rest t) (rw e at w)
+  where
+    go : (b : Bool) (o : Option X) (more : Bool) → (is_some o || (b || more)) ≡ whole → (is_some (if b then Some x else o) || more) ≡ whole
+    go true None more h = h
+    go true (Some y) more h = h
+    go false o more h = h

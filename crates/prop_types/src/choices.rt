@@ -57,7 +57,7 @@ fn number_choice(
     at: Option<usize>,
     number: u32,
 ) -> Result<Option<Choice>, AllocError>
-    ensures { IfOk result (λ c. c ≡ option_map (λ k. (k, decimal number)) at.entry) }
+    ensures { IfOk result (λ c. c ≡ option_map (λ k. (k, decimal number)) at) }
 {
     let Some(at) = at else {
         return Ok(None);
@@ -69,7 +69,7 @@ fn number_choice(
 
 // The choice of a text that is the entry at a place.
 fn text_choice(alloc: Global, at: Option<usize>, text: &Text) -> Result<Option<Choice>, AllocError>
-    ensures { IfOk result (λ c. c ≡ option_map (λ k. (k, form_of text.now)) at.entry) }
+    ensures { IfOk result (λ c. c ≡ option_map (λ k. (k, form_of text.now)) at) }
 {
     let Some(at) = at else {
         return Ok(None);

@@ -75,7 +75,7 @@ fn put_number(
     at: usize,
 ) -> Result<(), AllocError>
     ensures { OnOk result ((n : ℕ) → number_at places.new n
-        ≡ (if option_map_or (nat_eq n) number.entry false then Some at else number_at places.old n)) }
+        ≡ (if option_map_or (nat_eq n) number false then Some at else number_at places.old n)) }
 {
     match number {
         Some(number) => {

@@ -1,15 +1,14 @@
 //! The typed properties of a node.
 
-ghost use Rattle.std.specs.Prelude.{◌≡◌, ◌||◌, ◌++◌, ◌∷◌, ◌<◌, [], IfErr, IfOk, OnOk, List, Ok, filter, is_some, length, map, not, option_map, ℕ, if◌then◌else◌};
+ghost use Rattle.std.specs.Prelude.{◌≡◌, ◌||◌, ◌++◌, ◌∷◌, ◌<◌, [], IfErr, IfOk, OnOk, List, Ok, filter, length, map, not, option_map, ℕ, if◌then◌else◌};
 ghost use Rattle.std.specs.List.{list_any};
 ghost use Rattle.edt_base.specs.Nodes.{path_at};
 ghost use Rattle.edt_base.specs.Refusals.{IsRefused, IsStop};
 ghost use Rattle.edt_base.specs.declared.node.Part.{Part};
-ghost use Rattle.prop_types.specs.Inner.Places.{AreNamePlaces, text_at};
+ghost use Rattle.prop_types.specs.Inner.Places.{HasNames, has_name};
 ghost use Rattle.prop_types.specs.Inner.Seen.{seen};
 ghost use Rattle.prop_types.specs.Typing.{is_free, is_neither, is_standard, is_written, plain, plain_ones, typed_of};
 
-use crate::places::text_at;
 use crate::properties::{Declared, typed_all};
 use edt_base::{End, NodeId, NodeRec, PropType, Rule, Stop, Tree, Prop};
 use std::alloc::{AllocError, Global};
@@ -87,38 +86,41 @@ fn has_undeclared(
     ensures { IfOk result
         (λ has. has ≡ list_any (is_neither (map seen declared.now)) node.now.props) }
 {
-    let places = name_places(alloc, declared)?;
-    Ok(has_neither(node, &places))
+    let types = types_of(alloc, declared)?;
+    Ok(has_neither(node, &types))
 }
 
-// For each name the place of the first declared property of this name.
-#[tactic(auto, using(crate::proofs::PlaceLaws::or_none))]
-fn name_places<'a>(
+// The types of declared properties by their names.
+fn types_of<'a>(
     alloc: Global,
     declared: &[Declared<'a>],
-) -> Result<BTreeMap<&'a str, usize>, AllocError>
-    ensures { IfOk result (λ m. AreNamePlaces (map seen declared.now) m) }
+) -> Result<BTreeMap<&'a str, PropType>, AllocError>
+    ensures { IfOk result (λ m. HasNames (map seen declared.now) m) }
 {
-    let mut places = BTreeMap::new(alloc);
-    let mut left = declared;
-    while let Some((property, rest)) = left.split_last() {
-        places.insert(property.name, rest.len())?;
-        left = rest;
+    let mut types = BTreeMap::new(alloc);
+    for property in declared {
+        types.insert(property.name, property.ty)?;
     }
-    Ok(places)
+    Ok(types)
 }
 
-// Whether a node has a property that has no place and isn't free.
-fn has_neither(node: &NodeRec, places: &BTreeMap<&str, usize>) -> bool
+// Whether a node has a property that has no type and isn't free.
+fn has_neither(node: &NodeRec, types: &BTreeMap<&str, PropType>) -> bool
     ensures { result ≡ list_any (λ (p : List ℕ × List Part).
-        not (is_some (text_at places.now p.0) || is_free p.0)) node.now.props }
+        not (has_name types.now p.0 || is_free p.0)) node.now.props }
 {
     for (name, _) in node.props.iter() {
-        if text_at(places, name.as_str()).is_none() && !is_free(name.as_str()) {
+        if !has_name(types, name.as_str()) && !is_free(name.as_str()) {
             return true;
         }
     }
     false
+}
+
+fn has_name(types: &BTreeMap<&str, PropType>, name: &str) -> bool
+    ensures { result ≡ has_name types.now name.now }
+{
+    types.contains_key(name)
 }
 
 // Whether a node may have a property of this name though its binding doesn't declare it.
@@ -200,7 +202,7 @@ fn push_if<'a>(
     one: Declared<'a>,
     is: bool,
 ) -> Result<(), AllocError>
-    ensures { OnOk result (list.new.items ≡ list.old.items ++ (if is then one ∷ [] else [])) }
+    ensures { OnOk result (list.new.items ≡ list.old.items ++ (if is then one.entry ∷ [] else [])) }
 {
     if is {
         list.push(one)?;

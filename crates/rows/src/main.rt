@@ -4,10 +4,12 @@
 //! is what the layer is asked; `is` has the answer, or `starts` and `ends` its two ends.
 #![tactic(auto)]
 
+mod boards;
 mod c_lines;
 mod expansions;
 mod objects;
 mod orders;
+mod properties;
 mod records;
 mod registers;
 mod runs;
@@ -33,13 +35,14 @@ enum Layer {
     BindLoad,
     PhaNexus,
     RegRanges,
+    PropTypes,
     DepOrder,
     CTokens,
     CMacro,
     EdtRun,
 }
 
-const LAYERS: [Layer; 11] = [
+const LAYERS: [Layer; 12] = [
     Layer::EdtBase,
     Layer::DtsLex,
     Layer::DtsParse,
@@ -47,6 +50,7 @@ const LAYERS: [Layer; 11] = [
     Layer::BindLoad,
     Layer::PhaNexus,
     Layer::RegRanges,
+    Layer::PropTypes,
     Layer::DepOrder,
     Layer::CTokens,
     Layer::CMacro,
@@ -64,6 +68,7 @@ impl Layer {
             Layer::BindLoad => "bind_load.rows",
             Layer::PhaNexus => "pha_nexus.rows",
             Layer::RegRanges => "reg_ranges.rows",
+            Layer::PropTypes => "prop_types.rows",
             Layer::DepOrder => "dep_order.rows",
             Layer::CTokens => "c_tokens.rows",
             Layer::CMacro => "c_macro.rows",
@@ -81,6 +86,7 @@ impl Layer {
             Layer::BindLoad => records::answer(alloc, row),
             Layer::PhaNexus => specifiers::answer(alloc, row),
             Layer::RegRanges => registers::answer(alloc, row),
+            Layer::PropTypes => properties::answer(alloc, row),
             Layer::DepOrder => orders::answer(alloc, row),
             Layer::CTokens => c_lines::answer(alloc, row),
             Layer::CMacro => expansions::answer(alloc, row),

@@ -4,12 +4,9 @@
 //! The answer is the path of the node at which the specifier ends, and its cells, or the fault, which
 //! is told at the root.
 
-ghost use Rattle.std.specs.Prelude.{◌<◌, IfSome, length};
-
+use crate::boards::{node_at, tree_of};
 use crate::table::{Row, numbers_of};
-use dts_parse::parse;
-use dts_tree::build;
-use edt_base::{End, NodeId, Text, Tree};
+use edt_base::{End, NodeId, Text};
 use pha_nexus::follow;
 use std::alloc::{AllocError, Global};
 
@@ -38,23 +35,4 @@ fn followed(alloc: Global, row: &Row, source: &[u8], out: &mut String) -> Result
         write!(out, " {cell}")?;
     }
     Ok(())
-}
-
-fn tree_of(alloc: Global, source: &[u8]) -> Result<Tree, End> {
-    let name = Text::new(String::from_str(alloc, "b.dts")?);
-    let script = parse(alloc, &name, source, true)?;
-    let files = vec![in alloc; name]?;
-    let scripts = vec![in alloc; script]?;
-    build(alloc, &files, &scripts)
-}
-
-/// The node of a path, or the root.
-fn node_at(tree: &Tree, path: &str) -> NodeId
-    ensures { result < length tree.now.nodes }
-{
-    tree.is_well_formed();
-    match tree.find_str(path) {
-        Some(id) => id,
-        None => NodeId(0),
-    }
 }
