@@ -37,12 +37,12 @@ and_not true q = refl
 and_not false q = refl
 
 -- all have a choice where each equals an entry
-all_chosen : {A X : Type 0} (entries : List Value) (choice : A → Option X) (equals : A → Value → Bool) → ((a : A) → is_some (choice a) ≡ list_any (equals a) entries)
-    → (as : List A) → is_some (all_there (map choice as)) ≡ not (list_any (λ (e : Value → Bool). not (list_any e entries)) (map equals as))
+all_chosen : {A X : Type 0} (entries : List Value) (choice : A → Option X) (equals : A → Value → Bool) → ((x : A) → is_some (choice x) ≡ list_any (equals x) entries)
+    → (xs : List A) → is_some (all_there (map choice xs)) ≡ not (list_any (λ (e : Value → Bool). not (list_any e entries)) (map equals xs))
 all_chosen entries choice equals h [] = refl
-all_chosen entries choice equals h (a ∷ as) =
-    some_before (choice a) (all_there (map choice as)) ∙ (ap (λ b. b && is_some (all_there (map choice as))) (h a)
-    ∙ (ap (λ b. list_any (equals a) entries && b) (all_chosen entries choice equals h as) ∙ and_not (list_any (equals a) entries) _))
+all_chosen entries choice equals h (x ∷ xs) =
+    some_before (choice x) (all_there (map choice xs)) ∙ (ap (λ b. b && is_some (all_there (map choice xs))) (h x)
+    ∙ (ap (λ b. list_any (equals x) entries && b) (all_chosen entries choice equals h xs) ∙ and_not (list_any (equals x) entries) _))
 
 number_chosen : (read : Value → Option ℕ) (entries : List Value) (n : ℕ) → is_some (number_choice read entries n) ≡ list_any (is_number read n) entries
 number_chosen read entries n = some_map _ (position (is_number read n) entries) ∙ is_some_position (is_number read n) entries

@@ -1,6 +1,6 @@
 -- A list that is read item by item, where an item may not be there.
 use Rattle.std.proofs.Common.{◌≡◌, ◌++◌, List, [], ◌∷◌, Option, Some, None, ap, sym, refl}
-use Rattle.std.proofs.lemmas.List.{append_assoc, append_nil}
+use Rattle.std.proofs.lemmas.List.{append_assoc}
 use Rattle.prop_types.specs.AllThere.{all_there, before}
 
 -- what comes after some things

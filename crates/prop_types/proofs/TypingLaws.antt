@@ -51,3 +51,7 @@ name_added t name old new x d rest whole n e w =
     go true None more h = h
     go true (Some y) more h = h
     go false o more h = h
+
+pub eight : {X : Type 0} (a b c d e f g h a' b' c' d' e' f' g' h' : X) → a ≡ a' → b ≡ b' → c ≡ c' → d ≡ d' → e ≡ e' → f ≡ f' → g ≡ g' → h ≡ h'
+    → (a ∷ b ∷ c ∷ d ∷ e ∷ f ∷ g ∷ h ∷ []) ≡ (a' ∷ b' ∷ c' ∷ d' ∷ e' ∷ f' ∷ g' ∷ h' ∷ [])
+eight a b c d e f g h a' b' c' d' e' f' g' h' pa pb pc pd pe pf pg ph = rw (pa, pb, pc, pd, pe, pf, pg, ph) refl

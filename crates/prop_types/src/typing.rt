@@ -127,7 +127,7 @@ fn has_name(types: &BTreeMap<&str, PropType>, name: &str) -> bool
 fn is_free(name: &str) -> bool
     ensures { result ≡ is_free name.now }
 {
-    name.ends_with("-controller") || name.starts_with('#') || is_standard(name)
+    name.ends_with("-controller") || name.starts_with("#") || is_standard(name)
 }
 
 // The name of a property that each node may have.

@@ -3,7 +3,7 @@
 ghost use Rattle.std.specs.Prelude.{◌≡◌, IfErr, IfOk, Ok, Some, option_map};
 ghost use Rattle.edt_base.specs.Cells.{cells_of};
 ghost use Rattle.edt_base.specs.Refusals.{IsStop};
-ghost use Rattle.edt_base.specs.ValData.{val_data};
+ghost use Rattle.edt_base.specs.ValData.{nodes_val, val_data};
 ghost use Rattle.prop_types.specs.Written.{are_bytes, are_cells, named_node, named_path, node_of_phandle, nodes_of_phandles, phandle_value, there_or, written};
 ghost use Rattle.edt_base.specs.declared.fault.Rule.TheVariants as rule;
 
@@ -88,7 +88,8 @@ fn nodes_of_phandles(alloc: Global, t: &Tree, cells: Cells<'_>) -> Result<Vec<No
     ensures is { IfOk result
         (λ ids. nodes_of_phandles t.now.nodes (cells_of cells.entry) ≡ Some ids.items) }
     ensures stop { IfErr result
-        (IsStop (there_or rule.V20 (nodes_of_phandles t.now.nodes (cells_of cells.entry)))) }
+        (IsStop (there_or rule.V20
+        (option_map nodes_val (nodes_of_phandles t.now.nodes (cells_of cells.entry))))) }
 {
     let mut cells = cells;
     let mut ids = Vec::new(alloc);
