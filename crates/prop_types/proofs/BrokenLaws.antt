@@ -1,7 +1,10 @@
 -- Declared properties are typed as the rules say one by one.
-use Rattle.std.proofs.Common.{◌≡◌, ◌∙◌, ◌⊎◌, ◌&&◌, ◌||◌, ◌++◌, ℕ, Bool, true, false, not, List, [], ◌∷◌, Option, Some, None, Result, Ok, Err, is_some, length, map, nat_eq, option_map, position, ap, sym, refl, inl, inr, arith, if◌then◌else◌}
+use Rattle.std.proofs.Common.{◌≡◌, ◌∙◌, ◌⊎◌, ◌&&◌, ◌||◌, ◌++◌, ℕ, Bool, true, false, not, List, [], ◌∷◌, Option, Some, None, Result, Ok, Err, is_some, length, map, nat_eq, option_map, position, ap, sym, refl, inl, inr, if◌then◌else◌}
+use Rattle.std.proofs.lemmas.Bool.{false≢true}
+use Rattle.std.proofs.lemmas.Option.{none-some, same_Some}
 use Rattle.std.specs.List.{list_any}
 use Rattle.std.specs.Option.{IsSomeAnd, option_map_or}
+use Rattle.std.specs.Result.{is_ok}
 use Rattle.edt_base.specs.NodeData.{NodeData, bytes_of, one_cell}
 use Rattle.edt_base.specs.Nodes.{is_okay, prop_at}
 use Rattle.edt_base.specs.Values.{are_strings, value_cells, value_string}
@@ -66,14 +69,14 @@ chosen entries compound_val = refl
 
 flip : (b : Bool) → false ≡ not b → b ≡ true
 flip true e = refl
-flip false e = elim e [ ]
+flip false e = absurd (false≢true e)
 
 clash : (b : Bool) → true ≡ not b → b ≡ true → ⊥
-clash true e w = elim e [ ]
-clash false e w = elim w [ ]
+clash true e w = false≢true (sym e)
+clash false e w = false≢true w
 
 not_chosen : (es : Option (List Value)) (val : ValData) → choices_in es val ≡ None → IsSomeAnd es (λ entries. is_outside entries val ≡ true)
-not_chosen None val e = elim e [ ]
+not_chosen None val e = absurd (none-some [] (sym e))
 not_chosen (Some entries) val e = flip (is_outside entries val) (sym (ap is_some e) ∙ chosen entries val)
 
 are_chosen : (es : Option (List Value)) (val : ValData) (cs : List (ℕ × List ℕ)) → choices_in es val ≡ Some cs
@@ -84,12 +87,12 @@ are_chosen (Some entries) val cs e w = clash (is_outside entries val) (sym (ap i
 -- ---- `const`
 
 is_other : (o : Option Value) (same : Value → Bool) → option_map_or same o true ≡ false → IsSomeAnd o (λ c. same c ≡ false)
-is_other None same e = elim e [ ]
+is_other None same e = absurd (false≢true (sym e))
 is_other (Some c) same e = e
 
 is_same : (o : Option Value) (same : Value → Bool) → option_map_or same o true ≡ true → IsSomeAnd o (λ c. same c ≡ false) → ⊥
 is_same None same e w = w
-is_same (Some c) same e w = elim (sym e ∙ w) [ ]
+is_same (Some c) same e w = false≢true (sym w ∙ e)
 
 -- ---- what testing a value comes to
 
@@ -118,25 +121,31 @@ tests d val = go (choices_in d.choices val) refl
 
 -- ---- one declared property
 
-err_ok : {X E : Type 0} (e : E) (x : X) → Err {T = X} e ≡ Ok x → ⊥
-err_ok e x p = elim p [ ]
+pub err_ok : {X E : Type 0} (e : E) (x : X) → ◌≡◌ {A = Result X E} (Err e) (Ok x) → ⊥
+err_ok e x p = false≢true (ap is_ok p)
 
-ok_same : {X E : Type 0} (x y : X) → Ok {E = E} x ≡ Ok y → x ≡ y
-ok_same x y p = grind arith
+abbrev ok_in : {X E : Type 0} → X → Result X E → X
+ok_in x (Ok y) = y
+ok_in x (Err e) = x
 
-err_same : {X E : Type 0} (x y : E) → Err {T = X} x ≡ Err y → x ≡ y
-err_same x y p = grind arith
+abbrev err_in : {X E : Type 0} → E → Result X E → E
+err_in e (Ok y) = e
+err_in e (Err d) = d
 
-some_same : {X : Type 0} (x y : X) → Some x ≡ Some y → x ≡ y
-some_same x y p = grind arith
+pub ok_same : {X E : Type 0} (x y : X) → ◌≡◌ {A = Result X E} (Ok x) (Ok y) → x ≡ y
+ok_same x y p = ap (ok_in x) p
 
-some_none : {X : Type 0} (x : X) → None ≡ Some x → ⊥
-some_none x p = elim p [ ]
+err_same : {X E : Type 0} (x y : E) → ◌≡◌ {A = Result X E} (Err x) (Err y) → x ≡ y
+err_same x y p = ap (err_in x) p
+
+abbrev is_v11 : Rule → Bool
+is_v11 rule.V11 = true
+is_v11 r = false
 
 -- a declared property has one value
 one_value : (nodes : List NodeData) (d : DeclaredData) (parts : Option (List Part)) (v w : ValData) → HasValue nodes d parts v → HasValue nodes d parts w → v ≡ w
 one_value nodes d (Some parts) v w a b = ok_same v w (sym a ∙ b)
-one_value nodes d None v w a b = some_same v w (sym a ∙ b)
+one_value nodes d None v w a b = same_Some v w (sym a ∙ b)
 
 -- a value that is written breaks V11 or V20 alone
 of_option : {X : Type 0} (r q : Rule) (o : Option X) → there_or r o ≡ Err q → q ≡ r
@@ -174,23 +183,23 @@ abbrev IsProp : List NodeData → DeclaredData → Option (List Part) → PropDa
 IsProp nodes d parts p = (p.name ≡ d.name) × (p.ty ≡ d.ty) × HasValue nodes d parts p.val × (choices_in d.choices p.val ≡ Some p.choices)
 
 data One (nodes : List NodeData) (okay : Bool) (d : DeclaredData) (parts : Option (List Part)) (r : Result (List PropData) Rule) : Type 0 where
-  broken : (q : Rule) → r ≡ Err q → IsFirstOf in_order (Breaks nodes okay d parts) q → One nodes okay d parts r
-  there : (p : PropData) → r ≡ Ok (p ∷ []) → ((q : Rule) → Breaks nodes okay d parts q → ⊥) → IsProp nodes d parts p → One nodes okay d parts r
-  none : r ≡ Ok [] → ((q : Rule) → Breaks nodes okay d parts q → ⊥) → ((val : ValData) → HasValue nodes d parts val → ⊥) → One nodes okay d parts r
+  refused : (q : Rule) → r ≡ Err q → IsFirstOf in_order (Breaks nodes okay d parts) q → One nodes okay d parts r
+  has : (p : PropData) → r ≡ Ok (p ∷ []) → ((q : Rule) → Breaks nodes okay d parts q → ⊥) → IsProp nodes d parts p → One nodes okay d parts r
+  lacks : r ≡ Ok [] → ((q : Rule) → Breaks nodes okay d parts q → ⊥) → ((val : ValData) → HasValue nodes d parts val → ⊥) → One nodes okay d parts r
 
 -- one that has a value and breaks none of the first three rules
 valued : (nodes : List NodeData) (okay : Bool) (d : DeclaredData) (parts : Option (List Part)) (val : ValData) → HasValue nodes d parts val
     → (Breaks nodes okay d parts rule.V11 → ⊥) → (Breaks nodes okay d parts rule.V20 → ⊥) → (Breaks nodes okay d parts rule.V10 → ⊥)
     → One nodes okay d parts (as_one (with_value d val))
-valued nodes okay d parts val has n11 n20 n10 = by (with_value d val) (tests d val)
+valued nodes okay d parts val v n11 n20 n10 = by (with_value d val) (tests d val)
   where
     moved : (P : ValData → Type 0) (w : ValData) → HasValue nodes d parts w → P w → P val
-    moved P w h p = rw (one_value nodes d parts w val h has) at p
+    moved P w h p = rw (one_value nodes d parts w val h v) at p
     by : (r : Result PropData Rule) → Tested d val r → One nodes okay d parts (as_one r)
-    by r (outside o e) = broken rule.V13 (ap as_one e) (inr (n11, inr (n20, inr (n10, inl ((val, has, o), refl)))))
-    by r (other n o e) = broken rule.V14 (ap as_one e)
-        (inr (n11, inr (n20, inr (n10, inr (λ w. n (moved (IsOutside d) w.0 w.1 w.2), inl ((val, has, o), refl))))))
-    by r (passed n m choices c e) = there _ (ap as_one e) keeps (refl, refl, has, c)
+    by r (outside o e) = refused rule.V13 (ap as_one e) (inr (n11, inr (n20, inr (n10, inl ((val, v, o), refl)))))
+    by r (other n o e) = refused rule.V14 (ap as_one e)
+        (inr (n11, inr (n20, inr (n10, inr (λ w. n (moved (IsOutside d) w.0 w.1 w.2), inl ((val, v, o), refl))))))
+    by r (passed n m choices c e) = has _ (ap as_one e) keeps (refl, refl, v, c)
       where
         keeps : (q : Rule) → Breaks nodes okay d parts q → ⊥
         keeps rule.V11 w = n11 w
@@ -205,29 +214,29 @@ one nodes okay d (Some parts) = by (written nodes d.ty parts) refl
   where
     first : (q : Rule) → written nodes d.ty parts ≡ Err q → (q ≡ rule.V11) ⊎ (q ≡ rule.V20) → IsFirstOf in_order (Breaks nodes okay d (Some parts)) q
     first q e (inl is) = inl (rw is at e, is)
-    first q e (inr is) = inr (λ w. elim (err_same {X = ValData} rule.V11 rule.V20 (sym w ∙ rw is at e)) [ ], inl (rw is at e, is))
+    first q e (inr is) = inr (λ w. false≢true (sym (ap is_v11 (err_same {X = ValData} rule.V11 rule.V20 (sym w ∙ rw is at e)))), inl (rw is at e, is))
     by : (r : Result ValData Rule) → written nodes d.ty parts ≡ r → One nodes okay d (Some parts) (of_written d r)
-    by (Err q) e = broken q refl (first q e (written_breaks nodes d.ty parts q e))
-    by (Ok val) e = valued nodes okay d (Some parts) val e (λ w. err_ok rule.V11 val (sym w ∙ e)) (λ w. err_ok rule.V20 val (sym w ∙ e)) (λ w. some_none parts (sym w.0))
+    by (Err q) e = refused q refl (first q e (written_breaks nodes d.ty parts q e))
+    by (Ok val) e = valued nodes okay d (Some parts) val e (λ w. err_ok rule.V11 val (sym w ∙ e)) (λ w. err_ok rule.V20 val (sym w ∙ e)) (λ w. none-some parts (sym w.0))
 one nodes okay d None = by (okay && d.required) refl
   where
     both : (a b : Bool) → (a && b) ≡ true → (b ≡ true) × (a ≡ true)
     both true b e = (e, refl)
-    both false b e = elim e [ ]
+    both false b e = absurd (false≢true e)
     and : (a b : Bool) → (a && b) ≡ false → b ≡ true → a ≡ true → ⊥
-    and a b e w v = elim (sym e ∙ (ap (λ x. x && b) v ∙ w)) [ ]
+    and a b e w v = false≢true (sym e ∙ (ap (λ x. x && b) v ∙ w))
     value : (Breaks nodes okay d None rule.V10 → ⊥) → (o : Option ValData) → unwritten d.ty d.default ≡ o → One nodes okay d None (of_unwritten d o)
-    value n None e = none refl keeps (λ val w. some_none val (sym e ∙ w))
+    value n None e = lacks refl keeps (λ val w. none-some val (sym e ∙ w))
       where
         keeps : (q : Rule) → Breaks nodes okay d None q → ⊥
         keeps rule.V10 w = n w
-        keeps rule.V13 w = some_none w.0 (sym e ∙ w.1)
-        keeps rule.V14 w = some_none w.0 (sym e ∙ w.1)
+        keeps rule.V13 w = none-some w.0 (sym e ∙ w.1)
+        keeps rule.V14 w = none-some w.0 (sym e ∙ w.1)
         keeps q w = w
     value n (Some val) e = valued nodes okay d None val e (λ w. w) (λ w. w) n
     by : (b : Bool) → (okay && d.required) ≡ b → One nodes okay d None (if b then Err rule.V10 else of_unwritten d (unwritten d.ty d.default))
     by true e = let w : (d.required ≡ true) × (okay ≡ true) = both okay d.required e in
-        broken rule.V10 refl (inr (λ w. w, inr (λ w. w, inl ((refl, w.0, w.1), refl))))
+        refused rule.V10 refl (inr (λ w. w, inr (λ w. w, inl ((refl, w.0, w.1), refl))))
     by false e = value (λ w. and okay d.required e w.1 w.2) (unwritten d.ty d.default) refl
 
 -- ---- all of them
@@ -252,18 +261,18 @@ one_prop : (nodes : List NodeData) (id : ℕ) (d : DeclaredData) (p q : PropData
 one_prop nodes id d p q a b =
     let same : p.val ≡ q.val = one_value nodes d (prop_at nodes id d.name) p.val q.val a.2 b.2 in
     prop_same p.name q.name p.ty q.ty p.val q.val p.choices q.choices (a.0 ∙ sym b.0) (a.1 ∙ sym b.1) same
-        (some_same p.choices q.choices (sym a.3 ∙ (ap (choices_in d.choices) same ∙ b.3)))
+        (same_Some p.choices q.choices (sym a.3 ∙ (ap (choices_in d.choices) same ∙ b.3)))
 
 props_next : (nodes : List NodeData) (id : ℕ) (d : DeclaredData) (ds : List DeclaredData) (props : List PropData)
     → ((more : List PropData) → typed_all nodes id ds ≡ Ok more → ArePropsOf nodes id ds more)
     → (r : Result (List PropData) Rule) → One nodes (is_okay nodes id) d (prop_at nodes id d.name) r
     → (rest : Result (List PropData) Rule) → typed_all nodes id ds ≡ rest → joined r rest ≡ Ok props → ArePropsOf nodes id (d ∷ ds) props
-props_next nodes id d ds props ih r (broken q is f) rest t e = absurd (err_ok q props (ap (λ x. joined x rest) (sym is) ∙ e))
-props_next nodes id d ds props ih r (there p is keeps of) (Err q) t e = absurd (err_ok q props (ap (λ x. joined x (Err q)) (sym is) ∙ e))
-props_next nodes id d ds props ih r (there p is keeps of) (Ok more) t e =
+props_next nodes id d ds props ih r (refused q is f) rest t e = absurd (err_ok q props (ap (λ x. joined x rest) (sym is) ∙ e))
+props_next nodes id d ds props ih r (has p is keeps of) (Err q) t e = absurd (err_ok q props (ap (λ x. joined x (Err q)) (sym is) ∙ e))
+props_next nodes id d ds props ih r (has p is keeps of) (Ok more) t e =
     (keeps, inr (p, more, sym (ok_same (p ∷ more) props (ap (λ x. joined x (Ok more)) (sym is) ∙ e)), of, ih more t))
-props_next nodes id d ds props ih r (none is keeps no) (Err q) t e = absurd (err_ok q props (ap (λ x. joined x (Err q)) (sym is) ∙ e))
-props_next nodes id d ds props ih r (none is keeps no) (Ok more) t e = (keeps, inl (no, ih props (t ∙ (ap (λ x. joined x (Ok more)) (sym is) ∙ e))))
+props_next nodes id d ds props ih r (lacks is keeps n) (Err q) t e = absurd (err_ok q props (ap (λ x. joined x (Err q)) (sym is) ∙ e))
+props_next nodes id d ds props ih r (lacks is keeps n) (Ok more) t e = (keeps, inl (n, ih props (t ∙ (ap (λ x. joined x (Ok more)) (sym is) ∙ e))))
 
 pub typed_props : (nodes : List NodeData) (id : ℕ) (ds : List DeclaredData) (props : List PropData) → typed_all nodes id ds ≡ Ok props → ArePropsOf nodes id ds props
 typed_props nodes id [] props e = sym (ok_same [] props e)
@@ -274,13 +283,13 @@ props_back : (nodes : List NodeData) (id : ℕ) (d : DeclaredData) (ds : List De
     → ((more : List PropData) → ArePropsOf nodes id ds more → typed_all nodes id ds ≡ Ok more)
     → (r : Result (List PropData) Rule) → One nodes (is_okay nodes id) d (prop_at nodes id d.name) r
     → ArePropsOf nodes id (d ∷ ds) props → joined r (typed_all nodes id ds) ≡ Ok props
-props_back nodes id d ds props ih r (broken q is f) (keeps, w) = absurd (keeps q (first_breaks in_order (BreaksAt nodes id d) q f))
-props_back nodes id d ds props ih r (there p is ks of) (keeps, inl w) = absurd (w.0 p.val of.2)
-props_back nodes id d ds props ih r (there p is ks of) (keeps, inr w) =
+props_back nodes id d ds props ih r (refused q is f) (keeps, w) = absurd (keeps q (first_breaks in_order (BreaksAt nodes id d) q f))
+props_back nodes id d ds props ih r (has p is ks of) (keeps, inl w) = absurd (w.0 p.val of.2)
+props_back nodes id d ds props ih r (has p is ks of) (keeps, inr w) =
     ap (λ x. joined x (typed_all nodes id ds)) is ∙ (ap (joined (Ok (p ∷ []))) (ih w.1 w.4)
     ∙ (ap (λ x. Ok (x ∷ w.1)) (one_prop nodes id d p w.0 of w.3) ∙ ap Ok (sym w.2)))
-props_back nodes id d ds props ih r (none is ks no) (keeps, inl w) = ap (λ x. joined x (typed_all nodes id ds)) is ∙ ap (joined (Ok [])) (ih props w.1)
-props_back nodes id d ds props ih r (none is ks no) (keeps, inr w) = absurd (no w.0.val w.3.2)
+props_back nodes id d ds props ih r (lacks is ks n) (keeps, inl w) = ap (λ x. joined x (typed_all nodes id ds)) is ∙ ap (joined (Ok [])) (ih props w.1)
+props_back nodes id d ds props ih r (lacks is ks n) (keeps, inr w) = absurd (n w.0.val w.3.2)
 
 pub props_typed : (nodes : List NodeData) (id : ℕ) (ds : List DeclaredData) (props : List PropData) → ArePropsOf nodes id ds props → typed_all nodes id ds ≡ Ok props
 props_typed nodes id [] props e = ap Ok (sym e)
@@ -291,12 +300,12 @@ first_next : (nodes : List NodeData) (id : ℕ) (d : DeclaredData) (ds : List De
     → ((q : Rule) → typed_all nodes id ds ≡ Err q → IsFirstBroken nodes id ds q)
     → (x : Result (List PropData) Rule) → One nodes (is_okay nodes id) d (prop_at nodes id d.name) x
     → (rest : Result (List PropData) Rule) → typed_all nodes id ds ≡ rest → joined x rest ≡ Err r → IsFirstBroken nodes id (d ∷ ds) r
-first_next nodes id d ds r ih x (broken q is f) rest t e =
+first_next nodes id d ds r ih x (refused q is f) rest t e =
     let same : q ≡ r = err_same {X = List PropData} q r (ap (λ y. joined y rest) (sym is) ∙ e) in inl (rw same at f)
-first_next nodes id d ds r ih x (there p is keeps of) (Err q) t e = inr (keeps, ih r (t ∙ (ap (λ y. joined y (Err q)) (sym is) ∙ e)))
-first_next nodes id d ds r ih x (there p is keeps of) (Ok more) t e = absurd (err_ok r (p ∷ more) (sym (ap (λ y. joined y (Ok more)) (sym is) ∙ e)))
-first_next nodes id d ds r ih x (none is keeps no) (Err q) t e = inr (keeps, ih r (t ∙ (ap (λ y. joined y (Err q)) (sym is) ∙ e)))
-first_next nodes id d ds r ih x (none is keeps no) (Ok more) t e = absurd (err_ok r more (sym (ap (λ y. joined y (Ok more)) (sym is) ∙ e)))
+first_next nodes id d ds r ih x (has p is keeps of) (Err q) t e = inr (keeps, ih r (t ∙ (ap (λ y. joined y (Err q)) (sym is) ∙ e)))
+first_next nodes id d ds r ih x (has p is keeps of) (Ok more) t e = absurd (err_ok r (p ∷ more) (sym (ap (λ y. joined y (Ok more)) (sym is) ∙ e)))
+first_next nodes id d ds r ih x (lacks is keeps n) (Err q) t e = inr (keeps, ih r (t ∙ (ap (λ y. joined y (Err q)) (sym is) ∙ e)))
+first_next nodes id d ds r ih x (lacks is keeps n) (Ok more) t e = absurd (err_ok r more (sym (ap (λ y. joined y (Ok more)) (sym is) ∙ e)))
 
 pub broken_first : (nodes : List NodeData) (id : ℕ) (ds : List DeclaredData) (r : Rule) → typed_all nodes id ds ≡ Err r → IsFirstBroken nodes id ds r
 broken_first nodes id [] r e = absurd (err_ok r [] (sym e))
@@ -307,12 +316,12 @@ first_back : (nodes : List NodeData) (id : ℕ) (d : DeclaredData) (ds : List De
     → (IsFirstBroken nodes id ds r → typed_all nodes id ds ≡ Err r)
     → (x : Result (List PropData) Rule) → One nodes (is_okay nodes id) d (prop_at nodes id d.name) x
     → IsFirstBroken nodes id (d ∷ ds) r → joined x (typed_all nodes id ds) ≡ Err r
-first_back nodes id d ds r ih x (broken q is f) (inl g) = ap (λ y. joined y (typed_all nodes id ds)) is ∙ ap Err (first_same in_order (BreaksAt nodes id d) q r f g)
-first_back nodes id d ds r ih x (broken q is f) (inr w) = absurd (w.0 q (first_breaks in_order (BreaksAt nodes id d) q f))
-first_back nodes id d ds r ih x (there p is keeps of) (inl g) = absurd (keeps r (first_breaks in_order (BreaksAt nodes id d) r g))
-first_back nodes id d ds r ih x (there p is keeps of) (inr w) = ap (λ y. joined y (typed_all nodes id ds)) is ∙ ap (joined (Ok (p ∷ []))) (ih w.1)
-first_back nodes id d ds r ih x (none is keeps no) (inl g) = absurd (keeps r (first_breaks in_order (BreaksAt nodes id d) r g))
-first_back nodes id d ds r ih x (none is keeps no) (inr w) = ap (λ y. joined y (typed_all nodes id ds)) is ∙ ap (joined (Ok [])) (ih w.1)
+first_back nodes id d ds r ih x (refused q is f) (inl g) = ap (λ y. joined y (typed_all nodes id ds)) is ∙ ap Err (first_same in_order (BreaksAt nodes id d) q r f g)
+first_back nodes id d ds r ih x (refused q is f) (inr w) = absurd (w.0 q (first_breaks in_order (BreaksAt nodes id d) q f))
+first_back nodes id d ds r ih x (has p is keeps of) (inl g) = absurd (keeps r (first_breaks in_order (BreaksAt nodes id d) r g))
+first_back nodes id d ds r ih x (has p is keeps of) (inr w) = ap (λ y. joined y (typed_all nodes id ds)) is ∙ ap (joined (Ok (p ∷ []))) (ih w.1)
+first_back nodes id d ds r ih x (lacks is keeps n) (inl g) = absurd (keeps r (first_breaks in_order (BreaksAt nodes id d) r g))
+first_back nodes id d ds r ih x (lacks is keeps n) (inr w) = ap (λ y. joined y (typed_all nodes id ds)) is ∙ ap (joined (Ok [])) (ih w.1)
 
 pub first_broken : (nodes : List NodeData) (id : ℕ) (ds : List DeclaredData) (r : Rule) → IsFirstBroken nodes id ds r → typed_all nodes id ds ≡ Err r
 first_broken nodes id [] r w = absurd w

@@ -2,3 +2,4 @@ pub mod BrokenLaws
 pub mod PlaceLaws
 pub mod There
 pub mod TypingLaws
+pub mod WholeLaws

@@ -1,5 +1,5 @@
 -- Declared properties that are typed one after another.
-use Rattle.std.proofs.Common.{◌≡◌, ◌++◌, ℕ, Bool, true, false, List, [], ◌∷◌, Option, Some, None, Result, Ok, Err, filter, is_some, map, ap, sym, refl, ◌∙◌, ◌||◌, not, if◌then◌else◌}
+use Rattle.std.proofs.Common.{◌≡◌, ◌+◌, ◌<◌, ◌++◌, suc, length, get_or, drop, add-one, drop-cons, ℕ, Bool, true, false, List, [], ◌∷◌, Option, Some, None, Result, Ok, Err, filter, is_some, map, ap, sym, refl, ◌∙◌, ◌||◌, not, if◌then◌else◌}
 use Rattle.std.proofs.lemmas.List.{append_assoc}
 use Rattle.std.specs.List.{list_any}
 use Rattle.edt_base.specs.PropData.{PropData}
@@ -44,7 +44,7 @@ one_more f test xs new x false rest whole t n w = ap (λ ys. map f ys ++ filter 
 -- one more name in a table of names
 pub name_added : {X : Type 0} (t name : List ℕ) (old new : Option X) (x : X) (d : DeclaredData) (rest : List DeclaredData) (whole : Bool)
     → new ≡ (if bytes_eq name t then Some x else old) → d.name ≡ name → (is_some old || is_declared (d ∷ rest) t) ≡ whole → (is_some new || is_declared rest t) ≡ whole
-name_added t name old new x d rest whole n e w =
+name_added {X = X} t name old new x d rest whole n e w =
     ap (λ o. is_some o || is_declared rest t) n ∙ go (bytes_eq name t) old (is_declared rest t) (rw e at w)
   where
     go : (b : Bool) (o : Option X) (more : Bool) → (is_some o || (b || more)) ≡ whole → (is_some (if b then Some x else o) || more) ≡ whole
@@ -55,3 +55,6 @@ name_added t name old new x d rest whole n e w =
 pub eight : {X : Type 0} (a b c d e f g h a' b' c' d' e' f' g' h' : X) → a ≡ a' → b ≡ b' → c ≡ c' → d ≡ d' → e ≡ e' → f ≡ f' → g ≡ g' → h ≡ h'
     → (a ∷ b ∷ c ∷ d ∷ e ∷ f ∷ g ∷ h ∷ []) ≡ (a' ∷ b' ∷ c' ∷ d' ∷ e' ∷ f' ∷ g' ∷ h' ∷ [])
 eight a b c d e f g h a' b' c' d' e' f' g' h' pa pb pc pd pe pf pg ph = rw (pa, pb, pc, pd, pe, pf, pg, ph) refl
+
+pub dropped : {X : Type 0} (xs : List X) (i : ℕ) (x : X) → i < length xs → x ≡ get_or xs i x → drop i xs ≡ x ∷ drop (i + 1) xs
+dropped xs i x h e = rw add-one (drop-cons xs i x h ∙ ap (λ y. y ∷ drop (suc i) xs) (sym e))

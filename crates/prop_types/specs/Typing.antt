@@ -86,7 +86,7 @@ typed_all nodes id (d ∷ ds) =
     joined (typed_one nodes (is_okay nodes id) d (prop_at nodes id d.name)) (typed_all nodes id ds)
 
 -- the properties that a node may have though its binding doesn't declare them
-abbrev pub is_standard : List ℕ → Bool
+unfoldable pub is_standard : List ℕ → Bool
 is_standard name = bytes_eq name (codes "compatible") || bytes_eq name (codes "status") || bytes_eq name (codes "ranges")
     || bytes_eq name (codes "phandle") || bytes_eq name (codes "interrupt-parent")
     || bytes_eq name (codes "interrupts-extended") || bytes_eq name (codes "device_type")

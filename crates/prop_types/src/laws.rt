@@ -1,8 +1,8 @@
 //! Laws of typed properties, each the contract of a function without a body.
 
-ghost use Rattle.std.specs.Prelude.{◌≡◌, ℕ, List, Ok, Err};
+ghost use Rattle.std.specs.Prelude.{◌≡◌, ℕ, All, List, Ok, Err, length};
 ghost use Rattle.edt_base.specs.NodeData.{NodeData};
-ghost use Rattle.edt_base.specs.PropData.{PropData};
+ghost use Rattle.edt_base.specs.PropData.{IsTyped, PropData};
 ghost use Rattle.edt_base.specs.declared.fault.Rule.{Rule};
 ghost use Rattle.prop_types.specs.Broken.{ArePropsOf, IsFirstBroken};
 ghost use Rattle.prop_types.specs.Typing.{DeclaredData, typed_all};
@@ -20,4 +20,11 @@ pub fn declared_properties_are_typed()
         → typed_all nodes id ds ≡ Err r → IsFirstBroken nodes id ds r }
     ensures each_broken { (nodes : List NodeData) (id : ℕ) (ds : List DeclaredData) (r : Rule)
         → IsFirstBroken nodes id ds r → typed_all nodes id ds ≡ Err r }
+{}
+
+/// Typed properties keep what each property of a bound tree keeps: a value of the type, nodes that are
+/// there, and no choices or one of each tested value.
+pub fn typed_properties_are_whole()
+    ensures { (nodes : List NodeData) (id : ℕ) (ds : List DeclaredData) (props : List PropData)
+        → typed_all nodes id ds ≡ Ok props → All (IsTyped (length nodes)) props }
 {}

@@ -10,6 +10,6 @@ mod properties;
 mod typing;
 mod written;
 
-pub use laws::declared_properties_are_typed;
+pub use laws::{declared_properties_are_typed, typed_properties_are_whole};
 pub use properties::Declared;
 pub use typing::typed_as_declared;

@@ -131,6 +131,7 @@ fn is_free(name: &str) -> bool
 }
 
 // The name of a property that each node may have.
+#[tactic(auto, unfolding(crate::specs::Typing::is_standard))]
 fn is_standard(name: &str) -> bool
     ensures { result ≡ is_standard name.now }
 {
