@@ -1,5 +1,5 @@
 -- Typed properties keep what each property of a bound tree keeps.
-use Rattle.std.proofs.Common.{◌≡◌, ◌∙◌, ◌⊎◌, ◌&&◌, ◌<◌, ℕ, suc, Bool, true, false, List, [], ◌∷◌, Option, Some, None, Result, Ok, Err, IsTrue, ⊤, All, length, map, nat_eq, option_map, option_and_then, position, ap, sym, refl, inl, inr, tt, arith, if◌then◌else◌}
+use Rattle.std.proofs.Common.{◌≡◌, ◌∙◌, ◌⊎◌, ◌&&◌, ◌<◌, ℕ, suc, Bool, true, false, List, [], ◌∷◌, Option, Some, None, Result, Ok, Err, IsTrue, All, length, map, nat_eq, option_map, option_and_then, position, ap, sym, refl, subst, inl, inr, arith, if◌then◌else◌}
 use Rattle.std.proofs.lemmas.List.Elements.{All-append, All-cons}
 use Rattle.std.proofs.lemmas.List.Quantifiers.{position-Some}
 use Rattle.std.proofs.lemmas.Option.{none-some, same_Some}
@@ -36,7 +36,7 @@ none_below : (count : ℕ) → All (λ (id : ℕ). id < count) []
 none_below count = λ k d h. absurd (omega (arith, h))
 
 nodes_below : (nodes : List NodeData) (ns ids : List ℕ) → all_there (map (node_of_phandle nodes) ns) ≡ Some ids → All (λ id. id < length nodes) ids
-nodes_below nodes [] ids e = rw (same_Some [] ids e) at (none_below (length nodes))
+nodes_below nodes [] ids e = subst (λ (xs : List ℕ). All (λ id. id < length nodes) xs) (same_Some [] ids e) (none_below (length nodes))
 nodes_below nodes (n ∷ ns) ids e = by (node_of_phandle nodes n) refl (all_there (map (node_of_phandle nodes) ns)) (nodes_below nodes ns) e
   where
     by : (o : Option ℕ) → node_of_phandle nodes n ≡ o → (rest : Option (List ℕ)) → ((more : List ℕ) → rest ≡ Some more → All (λ id. id < length nodes) more)
@@ -44,7 +44,8 @@ nodes_below nodes (n ∷ ns) ids e = by (node_of_phandle nodes n) refl (all_ther
     by None h rest ih f = absurd (none-some ids f)
     by (Some id) h None ih f = absurd (none-some ids f)
     by (Some id) h (Some more) ih f =
-        rw (same_Some (id ∷ more) ids f) at (All-cons (λ id. id < length nodes) id more (place_below (has_phandle n) nodes id h) (ih more refl))
+        subst (λ (xs : List ℕ). All (λ i. i < length nodes) xs) (same_Some (id ∷ more) ids f)
+            (All-cons (λ i. i < length nodes) id more (place_below (has_phandle n) nodes id h) (ih more refl))
 
 -- ---- written values
 
@@ -86,7 +87,7 @@ written_whole nodes type.Phandles parts val e = by (are_cells parts) e
     by false e = absurd (err_ok rule.V11 val e)
 written_whole nodes type.PhandleArray parts val e = of_test rule.V11 (are_cells parts) (entries_val []) val (IsWhole (length nodes) type.PhandleArray) (tt, λ k d h. absurd (omega (arith, h))) e
 written_whole nodes type.Path parts val e = of_option rule.V11 node_val (named_node nodes parts) val (IsWhole (length nodes) type.Path) (λ x h. (tt, named_below nodes parts x h)) e
-written_whole nodes type.Compound parts val e = rw (ok_same compound_val val e) at (tt, tt)
+written_whole nodes type.Compound parts val e = subst (IsWhole (length nodes) type.Compound) (ok_same compound_val val e) (tt, tt)
 
 -- ---- values that a binding gives
 
@@ -113,7 +114,7 @@ default_whole count ty None val e = absurd (none-some val e)
 default_whole count ty (Some v) val e = given_whole count ty v val e
 
 unwritten_whole : (count : ℕ) (ty : PropType) (default : Option Value) (val : ValData) → unwritten ty default ≡ Some val → IsWhole count ty val
-unwritten_whole count type.Boolean default val e = rw (same_Some (bool_val false) val e) at (tt, tt)
+unwritten_whole count type.Boolean default val e = subst (IsWhole count type.Boolean) (same_Some (bool_val false) val e) (tt, tt)
 unwritten_whole count type.Int default val e = default_whole count type.Int default val e
 unwritten_whole count type.Array default val e = default_whole count type.Array default val e
 unwritten_whole count type.U8Array default val e = default_whole count type.U8Array default val e
@@ -144,23 +145,23 @@ abbrev AreChoices : PropType → ValData → List (ℕ × List ℕ) → Type 0
 AreChoices ty val cs = (cs ≡ []) ⊎ (IsTrue (is_tested ty) × (length cs ≡ tested_count val))
 
 tests_of_int : (ty : PropType) (n : ℕ) → IsOfType ty (int_val n) → IsTrue (is_tested ty)
-tests_of_int type.Int n t = tt
+tests_of_int type.Int n t = refl
 tests_of_int ty n t = absurd t
 
 tests_of_ints : (ty : PropType) (ns : List ℕ) → IsOfType ty (ints_val ns) → IsTrue (is_tested ty)
-tests_of_ints type.Array ns t = tt
+tests_of_ints type.Array ns t = refl
 tests_of_ints ty ns t = absurd t
 
 tests_of_bytes : (ty : PropType) (ns : List ℕ) → IsOfType ty (u8s_val ns) → IsTrue (is_tested ty)
-tests_of_bytes type.U8Array ns t = tt
+tests_of_bytes type.U8Array ns t = refl
 tests_of_bytes ty ns t = absurd t
 
 tests_of_text : (ty : PropType) (s : List ℕ) → IsOfType ty (str_val s) → IsTrue (is_tested ty)
-tests_of_text type.Str s t = tt
+tests_of_text type.Str s t = refl
 tests_of_text ty s t = absurd t
 
 tests_of_texts : (ty : PropType) (ss : List (List ℕ)) → IsOfType ty (strs_val ss) → IsTrue (is_tested ty)
-tests_of_texts type.StrArray ss t = tt
+tests_of_texts type.StrArray ss t = refl
 tests_of_texts ty ss t = absurd t
 
 chosen_whole : (entries : List Value) (ty : PropType) (val : ValData) (cs : List (ℕ × List ℕ)) → IsOfType ty val → choices_of entries val ≡ Some cs → AreChoices ty val cs
@@ -191,10 +192,10 @@ none_typed : (count : ℕ) → All (IsTyped count) []
 none_typed count = λ k d h. absurd (omega (arith, h))
 
 props_whole : (nodes : List NodeData) (id : ℕ) (ds : List DeclaredData) (props : List PropData) → ArePropsOf nodes id ds props → All (IsTyped (length nodes)) props
-props_whole nodes id [] props e = rw (sym e) at (none_typed (length nodes))
+props_whole nodes id [] props e = subst (All (IsTyped (length nodes))) (sym e) (none_typed (length nodes))
 props_whole nodes id (d ∷ ds) props (keeps, inl w) = props_whole nodes id ds props w.1
 props_whole nodes id (d ∷ ds) props (keeps, inr w) =
-    rw (sym w.2) at (All-cons (IsTyped (length nodes)) w.0 w.1 (prop_whole nodes id d w.0 w.3) (props_whole nodes id ds w.1 w.4))
+    subst (All (IsTyped (length nodes))) (sym w.2) (All-cons (IsTyped (length nodes)) w.0 w.1 (prop_whole nodes id d w.0 w.3) (props_whole nodes id ds w.1 w.4))
 
 pub typed_whole : (nodes : List NodeData) (id : ℕ) (ds : List DeclaredData) (props : List PropData) → typed_all nodes id ds ≡ Ok props → All (IsTyped (length nodes)) props
 typed_whole nodes id ds props e = props_whole nodes id ds props (typed_props nodes id ds props e)

@@ -1,7 +1,7 @@
 //! The typed properties of a node.
 
-ghost use Rattle.std.specs.Prelude.{◌≡◌, ◌||◌, ◌++◌, ◌∷◌, ◌<◌, [], IfErr, IfOk, OnOk, List, Ok, filter, length, map, not, option_map, ℕ, if◌then◌else◌};
-ghost use Rattle.std.specs.List.{list_any};
+ghost use Rattle.std.specs.Prelude.{◌≡◌, ◌||◌, ◌++◌, ◌∷◌, ◌<◌, [], IfErr, IfOk, OnOk, List, Ok, codes, filter, length, map, nat_eq, not, option_map, ℕ, if◌then◌else◌};
+ghost use Rattle.std.specs.List.{ends_with, list_any, starts_with};
 ghost use Rattle.edt_base.specs.Nodes.{path_at};
 ghost use Rattle.edt_base.specs.Refusals.{IsRefused, IsStop};
 ghost use Rattle.edt_base.specs.declared.node.Part.{Part};
@@ -127,7 +127,21 @@ fn has_name(types: &BTreeMap<&str, PropType>, name: &str) -> bool
 fn is_free(name: &str) -> bool
     ensures { result ≡ is_free name.now }
 {
-    name.ends_with("-controller") || name.starts_with("#") || is_standard(name)
+    is_controller(name) || is_count(name) || is_standard(name)
+}
+
+// A name of a controller's mark, as `interrupt-controller`.
+fn is_controller(name: &str) -> bool
+    ensures { result ≡ ends_with nat_eq name.now (codes "-controller") }
+{
+    name.ends_with("-controller")
+}
+
+// A name of a count, as `#gpio-cells`.
+fn is_count(name: &str) -> bool
+    ensures { result ≡ starts_with nat_eq name.now (codes "#") }
+{
+    name.starts_with("#")
 }
 
 // The name of a property that each node may have.

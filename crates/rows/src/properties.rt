@@ -1,5 +1,5 @@
 //! Rows of `prop_types`: `board` is a source, `node` the path of a node of it, and `binding` has the
-//! lines of the binding file that is the node's, where it has one.
+//! lines of the binding file that is the node's, where it has one, its properties in byte order.
 //!
 //! The answer has the node's typed properties, each `NAME=VALUE` with a blank after it, or the rule
 //! that it breaks: numbers in decimal, several in `{ }`, bytes in `[ ]`, texts in quotes, nodes as
@@ -51,7 +51,7 @@ fn push_typed(
     Ok(())
 }
 
-/// The properties by what a binding file declares.
+/// The properties by what a binding file declares, in the order of its lines.
 fn typed_by(
     alloc: Global,
     tree: &Tree,
@@ -67,7 +67,6 @@ fn typed_by(
     for (name, spec) in record.props.iter() {
         declared.push(declared_of(name, spec))?;
     }
-    declared.sort_unstable_by(|a, b| a.name.cmp(b.name));
     typed_as_declared(alloc, tree, id, Some(declared.as_slice()))
 }
 
