@@ -106,7 +106,7 @@ data Tested (d : DeclaredData) (val : ValData) (r : Result PropData Rule) : Type
   outside : IsOutside d val → r ≡ Err rule.V13 → Tested d val r
   other : (IsOutside d val → ⊥) → IsOther d val → r ≡ Err rule.V14 → Tested d val r
   passed : (IsOutside d val → ⊥) → (IsOther d val → ⊥) → (choices : List (ℕ × List ℕ)) → choices_in d.choices val ≡ Some choices
-    → r ≡ Ok (record { name = d.name; ty = d.ty; val = val; choices = choices }) → Tested d val r
+      → r ≡ Ok (record { name = d.name; ty = d.ty; val = val; choices = choices }) → Tested d val r
 
 tests : (d : DeclaredData) (val : ValData) → Tested d val (with_value d val)
 tests d val = go (choices_in d.choices val) refl
@@ -115,6 +115,7 @@ tests d val = go (choices_in d.choices val) refl
         → Tested d val (if b then Ok (record { name = d.name; ty = d.ty; val = val; choices = choices }) else Err rule.V14)
     constant choices e true same = passed (are_chosen d.choices val choices e) (is_same d.constant (λ c. is_constant d.ty c val) same) choices e refl
     constant choices e false differs = other (are_chosen d.choices val choices e) (is_other d.constant (λ c. is_constant d.ty c val) differs) refl
+
     go : (cs : Option (List (ℕ × List ℕ))) → choices_in d.choices val ≡ cs → Tested d val (with_choices d val cs)
     go None e = outside (not_chosen d.choices val e) refl
     go (Some choices) e = constant choices e (option_map_or (λ c. is_constant d.ty c val) d.constant true) refl
@@ -195,6 +196,7 @@ valued nodes okay d parts val v n11 n20 n10 = by (with_value d val) (tests d val
   where
     moved : (P : ValData → Type 0) (w : ValData) → HasValue nodes d parts w → P w → P val
     moved P w h p = rw (one_value nodes d parts w val h v) at p
+
     by : (r : Result PropData Rule) → Tested d val r → One nodes okay d parts (as_one r)
     by r (outside o e) = refused rule.V13 (ap as_one e) (inr (n11, inr (n20, inr (n10, inl ((val, v, o), refl)))))
     by r (other n o e) = refused rule.V14 (ap as_one e)
@@ -215,6 +217,7 @@ one nodes okay d (Some parts) = by (written nodes d.ty parts) refl
     first : (q : Rule) → written nodes d.ty parts ≡ Err q → (q ≡ rule.V11) ⊎ (q ≡ rule.V20) → IsFirstOf in_order (Breaks nodes okay d (Some parts)) q
     first q e (inl is) = inl (rw is at e, is)
     first q e (inr is) = inr (λ w. false≢true (sym (ap is_v11 (err_same {X = ValData} rule.V11 rule.V20 (sym w ∙ rw is at e)))), inl (rw is at e, is))
+
     by : (r : Result ValData Rule) → written nodes d.ty parts ≡ r → One nodes okay d (Some parts) (of_written d r)
     by (Err q) e = refused q refl (first q e (written_breaks nodes d.ty parts q e))
     by (Ok val) e = valued nodes okay d (Some parts) val e (λ w. err_ok rule.V11 val (sym w ∙ e)) (λ w. err_ok rule.V20 val (sym w ∙ e)) (λ w. none-some parts (sym w.0))
@@ -223,8 +226,10 @@ one nodes okay d None = by (okay && d.required) refl
     both : (a b : Bool) → (a && b) ≡ true → (b ≡ true) × (a ≡ true)
     both true b e = (e, refl)
     both false b e = absurd (false≢true e)
+
     and : (a b : Bool) → (a && b) ≡ false → b ≡ true → a ≡ true → ⊥
     and a b e w v = false≢true (sym e ∙ (ap (λ x. x && b) v ∙ w))
+
     value : (Breaks nodes okay d None rule.V10 → ⊥) → (o : Option ValData) → unwritten d.ty d.default ≡ o → One nodes okay d None (of_unwritten d o)
     value n None e = lacks refl keeps (λ val w. none-some val (sym e ∙ w))
       where
@@ -234,6 +239,7 @@ one nodes okay d None = by (okay && d.required) refl
         keeps rule.V14 w = none-some w.0 (sym e ∙ w.1)
         keeps q w = w
     value n (Some val) e = valued nodes okay d None val e (λ w. w) (λ w. w) n
+
     by : (b : Bool) → (okay && d.required) ≡ b → One nodes okay d None (if b then Err rule.V10 else of_unwritten d (unwritten d.ty d.default))
     by true e = let w : (d.required ≡ true) × (okay ≡ true) = both okay d.required e in
         refused rule.V10 refl (inr (λ w. w, inr (λ w. w, inl ((refl, w.0, w.1), refl))))
@@ -261,7 +267,7 @@ one_prop : (nodes : List NodeData) (id : ℕ) (d : DeclaredData) (p q : PropData
 one_prop nodes id d p q a b =
     let same : p.val ≡ q.val = one_value nodes d (prop_at nodes id d.name) p.val q.val a.2 b.2 in
     prop_same p.name q.name p.ty q.ty p.val q.val p.choices q.choices (a.0 ∙ sym b.0) (a.1 ∙ sym b.1) same
-        (same_Some p.choices q.choices (sym a.3 ∙ (ap (choices_in d.choices) same ∙ b.3)))
+    (same_Some p.choices q.choices (sym a.3 ∙ (ap (choices_in d.choices) same ∙ b.3)))
 
 props_next : (nodes : List NodeData) (id : ℕ) (d : DeclaredData) (ds : List DeclaredData) (props : List PropData)
     → ((more : List PropData) → typed_all nodes id ds ≡ Ok more → ArePropsOf nodes id ds more)

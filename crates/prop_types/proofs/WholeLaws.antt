@@ -45,7 +45,7 @@ nodes_below nodes (n ∷ ns) ids e = by (node_of_phandle nodes n) refl (all_ther
     by (Some id) h None ih f = absurd (none-some ids f)
     by (Some id) h (Some more) ih f =
         subst (λ (xs : List ℕ). All (λ i. i < length nodes) xs) (same_Some (id ∷ more) ids f)
-            (All-cons (λ i. i < length nodes) id more (place_below (has_phandle n) nodes id h) (ih more refl))
+        (All-cons (λ i. i < length nodes) id more (place_below (has_phandle n) nodes id h) (ih more refl))
 
 -- ---- written values
 

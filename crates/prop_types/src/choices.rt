@@ -9,7 +9,9 @@ ghost use Rattle.prop_types.specs.Choices.{choices_of, number_choice, text_choic
 ghost use Rattle.prop_types.specs.Given.{byte_in, cell_in};
 
 use crate::forms::form;
-use crate::places::{Numbers, first_cell, first_text, number_at, number_places, text_at, text_places};
+use crate::places::{
+    Numbers, first_cell, first_text, number_at, number_places, text_at, text_places,
+};
 use edt_base::{Text, Val, Yaml};
 use itoa::Buffer;
 use std::alloc::{AllocError, Global};
@@ -92,7 +94,10 @@ fn cell_choice(alloc: Global, entries: &[Yaml], cell: u32) -> Result<Option<Choi
     ensures { IfOk result (λ v. option_map (λ c. c.items) v
         ≡ all_there (number_choice cell_in (map value_of entries.now) cell ∷ [])) }
 {
-    one(alloc, number_choice(alloc, first_cell(entries, cell), cell)?)
+    one(
+        alloc,
+        number_choice(alloc, first_cell(entries, cell), cell)?,
+    )
 }
 
 // The choice of one text.

@@ -10,7 +10,7 @@ ghost use Rattle.prop_types.specs.Inner.Seen.{seen};
 ghost use Rattle.prop_types.specs.Typing.{is_free, is_neither, is_standard, is_written, plain, plain_ones, typed_of};
 
 use crate::properties::{Declared, typed_all};
-use edt_base::{End, NodeId, NodeRec, PropType, Rule, Stop, Tree, Prop};
+use edt_base::{End, NodeId, NodeRec, Prop, PropType, Rule, Stop, Tree};
 use std::alloc::{AllocError, Global};
 use std::collections::BTreeMap;
 
@@ -159,11 +159,7 @@ fn is_standard(name: &str) -> bool
 }
 
 // The written ones of the properties that a node without a binding has, in byte order.
-fn plain_ones(
-    alloc: Global,
-    t: &Tree,
-    id: NodeId,
-) -> Result<Vec<Declared<'static>>, AllocError>
+fn plain_ones(alloc: Global, t: &Tree, id: NodeId) -> Result<Vec<Declared<'static>>, AllocError>
     requires { id < length t.now.nodes }
     ensures { IfOk result (λ v. map seen v.items ≡ filter (is_written t.now.nodes id) plain_ones) }
 {
@@ -212,11 +208,7 @@ fn written_ones<'a>(
     Ok(written)
 }
 
-fn push_if<'a>(
-    list: &mut Vec<Declared<'a>>,
-    one: Declared<'a>,
-    is: bool,
-) -> Result<(), AllocError>
+fn push_if<'a>(list: &mut Vec<Declared<'a>>, one: Declared<'a>, is: bool) -> Result<(), AllocError>
     ensures { OnOk result (list.new.items ≡ list.old.items ++ (if is then one.entry ∷ [] else [])) }
 {
     if is {

@@ -13,12 +13,7 @@ use std::alloc::{AllocError, Global};
 /// The value of a property of this type. Broken where it is of the wrong kind, which is V11, or where
 /// a cell is no node's phandle, which is V20.
 #[tactic(auto, unfolding(crate::specs::Written::written))]
-pub(crate) fn written(
-    alloc: Global,
-    t: &Tree,
-    ty: PropType,
-    value: &PropVal,
-) -> Result<Val, Stop>
+pub(crate) fn written(alloc: Global, t: &Tree, ty: PropType, value: &PropVal) -> Result<Val, Stop>
     ensures is { IfOk result (λ v. written t.now.nodes ty value.now ≡ Ok (val_data v)) }
     ensures stop { IfErr result (IsStop (written t.now.nodes ty value.now)) }
 {

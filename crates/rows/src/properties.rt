@@ -52,12 +52,7 @@ fn push_typed(
 }
 
 /// The properties by what a binding file declares, in the order of its lines.
-fn typed_by(
-    alloc: Global,
-    tree: &Tree,
-    id: NodeId,
-    binding: &[u8],
-) -> Result<Vec<Prop>, End>
+fn typed_by(alloc: Global, tree: &Tree, id: NodeId, binding: &[u8]) -> Result<Vec<Prop>, End>
     requires { id < length tree.now.nodes }
 {
     let file = Text::new(String::from_str(alloc, "d/x.yaml")?);

@@ -11,6 +11,6 @@ pub returns : goal.returns
 returns c =
     let cell = c.args.cell in
     let same : c.in_ok-number_choice.field-0 ≡ number_choice cell_in (map value_of c.args.entries.now) cell =
-        c.in_ok-number_choice.ensures ∙ ap (option_map (λ (at : ℕ). (at, decimal cell))) (c.first_cell.ensures ∙ sym (position_map value_of (is_number cell_in cell) c.args.entries.now)) in
+    c.in_ok-number_choice.ensures ∙ ap (option_map (λ (at : ℕ). (at, decimal cell))) (c.first_cell.ensures ∙ sym (position_map value_of (is_number cell_in cell) c.args.entries.now)) in
     let one : IfOk c.one.result (λ v. option_map (λ (x : Vec (ℕ × Text) Global). x.items) v ≡ all_there (c.in_ok-number_choice.field-0 ∷ [])) = c.one.ensures in
     rw same at one

@@ -11,5 +11,5 @@ loop-entry-preserved c = λ n.
     let read = number_in c.args.numbers in
     let entry = value_of c.in-Some.entry.now in
     places_go (is_number read n) (map value_of c.args.entries.now) (map value_of c.loop-entry.left.now) (map value_of c.in-Some.rest.now) entry _ _
-        (c.loop-entry.invariant n) (map_last value_of _ _ _ c.in-Some.ensures.cases.0)
-        (read_number read n entry _ _ _ _ _ (c.in_ok-put_number.ensures n) c.number_in.ensures (sym (length-map c.in-Some.rest.now value_of)))
+    (c.loop-entry.invariant n) (map_last value_of _ _ _ c.in-Some.ensures.cases.0)
+    (read_number read n entry _ _ _ _ _ (c.in_ok-put_number.ensures n) c.number_in.ensures (sym (length-map c.in-Some.rest.now value_of)))

@@ -9,5 +9,5 @@ pub loop-entry-preserved : goal.loop-entry-preserved
 loop-entry-preserved c = λ t.
     let entry = value_of c.in-Some.entry.now in
     places_go (is_text t) (map value_of c.args.entries.now) (map value_of c.loop-entry.left.now) (map value_of c.in-Some.rest.now) entry _ _
-        (c.loop-entry.invariant t) (map_last value_of _ _ _ c.in-Some.ensures.cases.0)
-        (read_text t entry _ _ _ _ _ (c.in_ok-put_text.ensures t) c.text_in.ensures (sym (length-map c.in-Some.rest.now value_of)))
+    (c.loop-entry.invariant t) (map_last value_of _ _ _ c.in-Some.ensures.cases.0)
+    (read_text t entry _ _ _ _ _ (c.in_ok-put_text.ensures t) c.text_in.ensures (sym (length-map c.in-Some.rest.now value_of)))

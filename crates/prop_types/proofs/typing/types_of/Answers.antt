@@ -11,5 +11,5 @@ loop-property-preserved c = λ t.
     let at = c.loop-property.property-index in
     let next : drop at all ≡ property ∷ drop (at + 1) all = dropped all at property c.loop-property-test.true c.property-item.is in
     name_added t property.name.now _ _ property.ty (seen property) (map seen (drop (at + 1) all)) _
-        (btree_map_updates_str property.name.now c.loop-property.types c.insert.new.self (Some property.ty) c.in_ok-insert.ensures.updates t)
-        refl (rw next at (c.loop-property.invariant t))
+    (btree_map_updates_str property.name.now c.loop-property.types c.insert.new.self (Some property.ty) c.in_ok-insert.ensures.updates t)
+    refl (rw next at (c.loop-property.invariant t))
