@@ -87,4 +87,5 @@ HasNoValue nodes id d = (val : ValData) → HasValue nodes d (prop_at nodes id d
 abbrev pub ArePropsOf : List NodeData → ℕ → List DeclaredData → List PropData → Type 0
 ArePropsOf nodes id [] props = props ≡ []
 ArePropsOf nodes id (d ∷ ds) props = KeepsAll nodes id d × ((HasNoValue nodes id d × ArePropsOf nodes id ds props)
-    ⊎ ((p : PropData) × (more : List PropData) × (props ≡ p ∷ more) × IsPropOf nodes id d p × ArePropsOf nodes id ds more))
+    ⊎ ((p : PropData) × (more : List PropData) × (props ≡ p ∷ more) × IsPropOf nodes id d p
+    × ArePropsOf nodes id ds more))

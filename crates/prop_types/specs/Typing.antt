@@ -87,7 +87,8 @@ typed_all nodes id (d ∷ ds) =
 
 -- the properties that a node may have though its binding doesn't declare them
 unfoldable pub is_standard : List ℕ → Bool
-is_standard name = bytes_eq name (codes "compatible") || bytes_eq name (codes "status") || bytes_eq name (codes "ranges")
+is_standard name = bytes_eq name (codes "compatible") || bytes_eq name (codes "status")
+    || bytes_eq name (codes "ranges")
     || bytes_eq name (codes "phandle") || bytes_eq name (codes "interrupt-parent")
     || bytes_eq name (codes "interrupts-extended") || bytes_eq name (codes "device_type")
 
@@ -107,7 +108,8 @@ is_neither ds p = not (is_declared ds p.0 || is_free p.0)
 
 -- the node at a place has a property that is neither declared nor free
 abbrev pub has_undeclared : List NodeData → ℕ → List DeclaredData → Bool
-has_undeclared nodes id ds = option_map_or (λ (n : NodeData). list_any (is_neither ds) n.props) (slice_get nodes id) false
+has_undeclared nodes id ds = option_map_or (λ (n : NodeData). list_any (is_neither ds) n.props) (slice_get nodes id)
+    false
 
 -- the properties that a node without a binding has where they are written, with their types, in byte order
 abbrev pub plain : List ℕ → PropType → DeclaredData

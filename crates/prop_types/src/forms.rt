@@ -7,8 +7,8 @@ ghost use Rattle.edt_base.specs.Forms.{form_char, form_of};
 use edt_base::Text;
 use std::alloc::{AllocError, Global};
 
-/// The form of a text: letters in lower case, digits, and `_` for every other character. The one error
-/// is want of memory.
+/// The form of a text: letters in lower case, digits, and `_` for every other character. The one
+/// error is want of memory.
 #[tactic(auto, unfolding(edt_base::specs::Forms::form_of))]
 pub(crate) fn form(alloc: Global, text: &Text) -> Result<Text, AllocError>
     ensures { IfOk result (λ f. f ≡ form_of text.now) }

@@ -3,7 +3,8 @@
 ghost use Rattle.std.specs.Prelude.{◌≡◌, IfOk, map, option_map};
 ghost use Rattle.edt_base.specs.ValData.{val_data};
 ghost use Rattle.edt_base.specs.YamlData.{value_of};
-ghost use Rattle.prop_types.specs.Given.{byte_in, byte_of_number, cell_in, cell_of_number, given, is_constant, list_in, same_val, text_in};
+ghost use Rattle.prop_types.specs.Given.{byte_in, byte_of_number, cell_in, cell_of_number, given};
+ghost use Rattle.prop_types.specs.Given.{is_constant, list_in, same_val, text_in};
 
 use edt_base::{Bytes, PropType, Text, Val, Yaml};
 use std::alloc::{AllocError, Global};
@@ -66,7 +67,8 @@ pub(crate) fn text_in(value: &Yaml) -> Option<&Text>
 
 #[tactic(auto, using(crate::proofs::There::after_next, crate::proofs::There::after_nothing))]
 fn cells_in(alloc: Global, value: &Yaml) -> Result<Option<Vec<u32>>, AllocError>
-    ensures { IfOk result (λ v. option_map (λ c. c.items) v ≡ list_in cell_in (value_of value.now)) }
+    ensures { IfOk result (λ v. option_map (λ c. c.items) v
+        ≡ list_in cell_in (value_of value.now)) }
 {
     let Yaml::List(items) = value else {
         return Ok(None);
@@ -100,7 +102,8 @@ fn bytes_in(alloc: Global, value: &Yaml) -> Result<Option<Bytes>, AllocError>
 
 #[tactic(auto, using(crate::proofs::There::after_next, crate::proofs::There::after_nothing))]
 fn texts_in(alloc: Global, value: &Yaml) -> Result<Option<Vec<Text>>, AllocError>
-    ensures { IfOk result (λ v. option_map (λ t. t.items) v ≡ list_in text_in (value_of value.now)) }
+    ensures { IfOk result (λ v. option_map (λ t. t.items) v
+        ≡ list_in text_in (value_of value.now)) }
 {
     let Yaml::List(items) = value else {
         return Ok(None);

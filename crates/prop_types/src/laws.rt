@@ -7,12 +7,13 @@ ghost use Rattle.edt_base.specs.declared.fault.Rule.{Rule};
 ghost use Rattle.prop_types.specs.Broken.{ArePropsOf, IsFirstBroken};
 ghost use Rattle.prop_types.specs.Typing.{DeclaredData, typed_all};
 
-/// Declared properties are typed exactly where none of them breaks a rule, and then they are in order
-/// those that have a value, each with the value and its choices. Else the rule that is told is broken
-/// by the first of them that breaks one, and is the first of V11, V20, V10, V13 and V14 that this one
-/// breaks, each said without the others.
+/// Declared properties are typed exactly where none of them breaks a rule, and then they are in
+/// order those that have a value, each with the value and its choices. Else the rule that is told
+/// is broken by the first of them that breaks one, and is the first of V11, V20, V10, V13 and V14
+/// that this one breaks, each said without the others.
 pub fn declared_properties_are_typed()
-    ensures typed { (nodes : List NodeData) (id : ℕ) (ds : List DeclaredData) (props : List PropData)
+    ensures typed { (nodes : List NodeData) (id : ℕ) (ds : List DeclaredData)
+        (props : List PropData)
         → typed_all nodes id ds ≡ Ok props → ArePropsOf nodes id ds props }
     ensures each_typed { (nodes : List NodeData) (id : ℕ) (ds : List DeclaredData)
         (props : List PropData) → ArePropsOf nodes id ds props → typed_all nodes id ds ≡ Ok props }
@@ -22,8 +23,8 @@ pub fn declared_properties_are_typed()
         → IsFirstBroken nodes id ds r → typed_all nodes id ds ≡ Err r }
 {}
 
-/// Typed properties keep what each property of a bound tree keeps: a value of the type, nodes that are
-/// there, and no choices or one of each tested value.
+/// Typed properties keep what each property of a bound tree keeps: a value of the type, nodes that
+/// are there, and no choices or one of each tested value.
 pub fn typed_properties_are_whole()
     ensures { (nodes : List NodeData) (id : ℕ) (ds : List DeclaredData) (props : List PropData)
         → typed_all nodes id ds ≡ Ok props → All (IsTyped (length nodes)) props }

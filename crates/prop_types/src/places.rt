@@ -1,13 +1,15 @@
-//! Where the entries of `enum` stand that equal a number or a text: through an ordered table, or for
-//! one value by going over them.
+//! Where the entries of `enum` stand that equal a number or a text: through an ordered table, or
+//! for one value by going over them.
 
-ghost use Rattle.std.specs.Prelude.{◌≡◌, ℕ, IfOk, List, OnOk, Some, false, map, nat_eq, option_map, position, if◌then◌else◌};
+ghost use Rattle.std.specs.Prelude.{◌≡◌, ℕ, IfOk, List, OnOk, Some, false, map, nat_eq, option_map};
+ghost use Rattle.std.specs.Prelude.{position, if◌then◌else◌};
 ghost use Rattle.std.specs.Option.{option_map_or};
 ghost use Rattle.std.specs.Str.{bytes_eq};
 ghost use Rattle.edt_base.specs.YamlData.{value_of};
 ghost use Rattle.prop_types.specs.Choices.{is_number, is_text};
 ghost use Rattle.prop_types.specs.Given.{cell_in};
-ghost use Rattle.prop_types.specs.Inner.Places.{AreNumberPlaces, AreTextPlaces, number_at, number_in, text_at};
+ghost use Rattle.prop_types.specs.Inner.Places.{AreNumberPlaces, AreTextPlaces, number_at};
+ghost use Rattle.prop_types.specs.Inner.Places.{number_in, text_at};
 
 use crate::given::{byte_in, cell_in, text_in};
 use edt_base::{Text, Yaml};

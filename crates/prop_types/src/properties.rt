@@ -1,6 +1,7 @@
 //! The properties that a binding declares, typed.
 
-ghost use Rattle.std.specs.Prelude.{◌≡◌, ◌++◌, ◌<◌, IfErr, IfOk, OnOk, Ok, length, map, option_map, true};
+ghost use Rattle.std.specs.Prelude.{◌≡◌, ◌++◌, ◌<◌, IfErr, IfOk, OnOk, Ok, length, map, option_map};
+ghost use Rattle.std.specs.Prelude.{true};
 ghost use Rattle.std.specs.Option.{option_map_or, option_to_list};
 ghost use Rattle.edt_base.specs.Refusals.{IsStop};
 ghost use Rattle.edt_base.specs.ValData.{val_data};

@@ -1,13 +1,16 @@
 //! The typed properties of a node.
 
-ghost use Rattle.std.specs.Prelude.{◌≡◌, ◌||◌, ◌++◌, ◌∷◌, ◌<◌, [], IfErr, IfOk, OnOk, List, Ok, codes, filter, length, map, nat_eq, not, option_map, ℕ, if◌then◌else◌};
+ghost use Rattle.std.specs.Prelude.{◌≡◌, ◌||◌, ◌++◌, ◌∷◌, ◌<◌, [], IfErr, IfOk, OnOk, List, Ok};
+ghost use Rattle.std.specs.Prelude.{codes, filter, length, map, nat_eq, not, option_map, ℕ};
+ghost use Rattle.std.specs.Prelude.{if◌then◌else◌};
 ghost use Rattle.std.specs.List.{ends_with, list_any, starts_with};
 ghost use Rattle.edt_base.specs.Nodes.{path_at};
 ghost use Rattle.edt_base.specs.Refusals.{IsRefused, IsStop};
 ghost use Rattle.edt_base.specs.declared.node.Part.{Part};
 ghost use Rattle.prop_types.specs.Inner.Places.{HasNames, has_name};
 ghost use Rattle.prop_types.specs.Inner.Seen.{seen};
-ghost use Rattle.prop_types.specs.Typing.{is_free, is_neither, is_standard, is_written, plain, plain_ones, typed_of};
+ghost use Rattle.prop_types.specs.Typing.{is_free, is_neither, is_standard, is_written, plain};
+ghost use Rattle.prop_types.specs.Typing.{plain_ones, typed_of};
 
 use crate::properties::{Declared, typed_all};
 use edt_base::{End, NodeId, NodeRec, Prop, PropType, Rule, Stop, Tree};
@@ -18,17 +21,17 @@ use std::collections::BTreeMap;
 /// names, or that has no binding (Zephyr 3.7, "Devicetree bindings syntax"). The node's place must
 /// be below the number of nodes. A phandle-array comes with no entries.
 ///
-/// A declared property that is written has the value that its parts have as its type; one that isn't
-/// has its `default`, and a boolean is then 0; one without any is left out. A node without a binding
-/// has of `compatible`, `status`, `label`, `reg`, `reg-names`, `interrupts`, `interrupt-names` and
-/// `interrupt-controller` those that are written.
+/// A declared property that is written has the value that its parts have as its type; one that
+/// isn't has its `default`, and a boolean is then 0; one without any is left out. A node without a
+/// binding has of `compatible`, `status`, `label`, `reg`, `reg-names`, `interrupts`,
+/// `interrupt-names` and `interrupt-controller` those that are written.
 ///
 /// The fault is told at the node, and is the first of these. V12 where the node has a property that
-/// isn't declared, but for one that ends `-controller`, begins `#` or is one that each node may have.
-/// Then by declared property: V11 where its value is of the wrong kind, V20 where a cell is no node's
-/// phandle; V10 where it isn't written, though it has to be and the node is okay; V13 where a value,
-/// or an element of it, is no entry of `enum`; V14 where it isn't `const`. The last two are tested on
-/// a default too.
+/// isn't declared, but for one that ends `-controller`, begins `#` or is one that each node may
+/// have. Then by declared property: V11 where its value is of the wrong kind, V20 where a cell is
+/// no node's phandle; V10 where it isn't written, though it has to be and the node is okay; V13
+/// where a value, or an element of it, is no entry of `enum`; V14 where it isn't `const`. The last
+/// two are tested on a default too.
 ///
 /// Takes time n log n in the properties and their bytes and in the entries of `enum`.
 pub fn typed_as_declared(

@@ -4,14 +4,16 @@ ghost use Rattle.std.specs.Prelude.{◌≡◌, IfErr, IfOk, Ok, Some, option_map
 ghost use Rattle.edt_base.specs.Cells.{cells_of};
 ghost use Rattle.edt_base.specs.Refusals.{IsStop};
 ghost use Rattle.edt_base.specs.ValData.{nodes_val, val_data};
-ghost use Rattle.prop_types.specs.Written.{are_bytes, are_cells, named_node, named_path, node_of_phandle, nodes_of_phandles, phandle_value, there_or, written};
+ghost use Rattle.prop_types.specs.Written.{are_bytes, are_cells, named_node, named_path};
+ghost use Rattle.prop_types.specs.Written.{node_of_phandle, nodes_of_phandles, phandle_value};
+ghost use Rattle.prop_types.specs.Written.{there_or, written};
 ghost use Rattle.edt_base.specs.declared.fault.Rule.TheVariants as rule;
 
 use edt_base::{Cells, Kind, NodeId, Part, PropType, PropVal, Rule, Stop, Text, Tree, Val};
 use std::alloc::{AllocError, Global};
 
-/// The value of a property of this type. Broken where it is of the wrong kind, which is V11, or where
-/// a cell is no node's phandle, which is V20.
+/// The value of a property of this type. Broken where it is of the wrong kind, which is V11, or
+/// where a cell is no node's phandle, which is V20.
 #[tactic(auto, unfolding(crate::specs::Written::written))]
 pub(crate) fn written(alloc: Global, t: &Tree, ty: PropType, value: &PropVal) -> Result<Val, Stop>
     ensures is { IfOk result (λ v. written t.now.nodes ty value.now ≡ Ok (val_data v)) }
