@@ -1,6 +1,28 @@
 //! Binding files with their includes, merged (Zephyr 3.7, "Devicetree bindings syntax").
 #![tactic(auto)]
 
+mod checks;
+mod entries;
+mod entry;
 mod laws;
+mod level;
+mod library;
+mod lookup;
+mod merging;
+mod names;
+mod own;
+mod reached;
+mod reading;
+mod resolve;
+mod same;
+mod shared;
+mod strings;
+mod table;
+#[cfg(test)]
+mod tests;
+mod view;
+mod walk;
 
-pub use laws::{merges_once, met_again, walks_once};
+pub use laws::{merges_once, met_again, views_tell, walks_once};
+pub use library::Library;
+pub use view::{PropView, View};

@@ -4,6 +4,7 @@
 //! is what the layer is asked; `is` has the answer, or `starts` and `ends` its two ends.
 #![tactic(auto)]
 
+mod bindings;
 mod c_lines;
 mod expansions;
 mod objects;
@@ -31,6 +32,7 @@ enum Layer {
     DtsParse,
     YamlProfile,
     BindLoad,
+    BindMerge,
     PhaNexus,
     RegRanges,
     DepOrder,
@@ -39,12 +41,13 @@ enum Layer {
     EdtRun,
 }
 
-const LAYERS: [Layer; 11] = [
+const LAYERS: [Layer; 12] = [
     Layer::EdtBase,
     Layer::DtsLex,
     Layer::DtsParse,
     Layer::YamlProfile,
     Layer::BindLoad,
+    Layer::BindMerge,
     Layer::PhaNexus,
     Layer::RegRanges,
     Layer::DepOrder,
@@ -62,6 +65,7 @@ impl Layer {
             Layer::DtsParse => "dts_parse.rows",
             Layer::YamlProfile => "yaml_profile.rows",
             Layer::BindLoad => "bind_load.rows",
+            Layer::BindMerge => "bind_merge.rows",
             Layer::PhaNexus => "pha_nexus.rows",
             Layer::RegRanges => "reg_ranges.rows",
             Layer::DepOrder => "dep_order.rows",
@@ -79,6 +83,7 @@ impl Layer {
             Layer::DtsParse => scripts::answer(alloc, row),
             Layer::YamlProfile => yaml_values::answer(alloc, row),
             Layer::BindLoad => records::answer(alloc, row),
+            Layer::BindMerge => bindings::answer(alloc, row),
             Layer::PhaNexus => specifiers::answer(alloc, row),
             Layer::RegRanges => registers::answer(alloc, row),
             Layer::DepOrder => orders::answer(alloc, row),

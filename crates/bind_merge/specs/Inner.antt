@@ -1,0 +1,9 @@
+pub mod Bringing
+pub mod Heights
+pub mod Items
+pub mod Naming
+pub mod Reading
+pub mod Resolving
+pub mod Spreading
+pub mod Stringing
+pub mod Ways

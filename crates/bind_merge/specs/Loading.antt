@@ -1,0 +1,129 @@
+-- What loading answers: the matching bindings, each merged, or the first fault.
+use Rattle.std.specs.Prelude.{◌≡◌, ◌⊎◌, ◌+◌, ◌||◌, ◌&&◌, ◌++◌, ℕ, Bool, true, false, List, [], ◌∷◌, Option, Some, None, Result, Ok, Err, codes, if◌then◌else◌, is_some, nat_eq, map}
+use Rattle.std.specs.List.{list_any, slice_get, starts_with}
+use Rattle.std.specs.Str.{bytes_eq}
+use Rattle.std.specs.Option.{option_and_then, option_map_or}
+use Rattle.edt_base.specs.YamlData.{Value, value_at}
+use Rattle.edt_base.specs.declared.fault.Fault.{Fault}
+use Rattle.edt_base.specs.declared.fault.Rule.TheVariants as rule
+use Rattle.yaml_profile.specs.Reading.{reading}
+use Rattle.yaml_profile.specs.declared.stop.Broken.{Broken}
+use Rattle.bind_load.specs.RecordOf.{text_in}
+use Rattle.bind_merge.specs.Files.{FileData, file_fault, name_of}
+use Rattle.bind_merge.specs.Listing.{File, byte_fault, read_files}
+use Rattle.bind_merge.specs.Levels.{LevelTable}
+use Rattle.bind_merge.specs.Conflicts.{HasConflict}
+use Rattle.bind_merge.specs.Merging.{IsMerged}
+use Rattle.bind_merge.specs.Checks.{merged_rule}
+use Rattle.bind_merge.specs.Options.{first_some}
+use Rattle.bind_merge.specs.Walks.{binding_walk}
+use Rattle.bind_merge.specs.LibraryData.{BindingData, is_for}
+
+-- a text stands somewhere in these bytes
+abbrev pub is_within : List ℕ → List ℕ → Bool
+is_within [] text = starts_with nat_eq [] text
+is_within (b ∷ bs) text = starts_with nat_eq (b ∷ bs) text || is_within bs text
+
+-- a file is read in the first step: one of the strings stands in it
+abbrev pub is_read : List (List ℕ) → File → Bool
+is_read compats f = list_any (is_within f.1) compats
+
+-- Step one: the first fault of the files that are read, as text.
+abbrev pub text_fault_in : File → Result Value Broken → Option Fault
+text_fault_in f (Ok v) = None
+text_fault_in f (Err b) = Some (byte_fault b f.0)
+
+abbrev pub text_fault : List (List ℕ) → File → Option Fault
+text_fault compats f = if is_read compats f then text_fault_in f (reading f.1) else None
+
+-- the compatible string of a value that is a map
+abbrev pub compatible_in : Result Value Broken → Option (List ℕ)
+compatible_in (Err b) = None
+compatible_in (Ok v) = option_and_then text_in (value_at (codes "compatible") v)
+
+-- a file is a matching binding
+abbrev pub is_matching : List (List ℕ) → File → Bool
+is_matching compats f = is_read compats f
+    && option_map_or (λ c. list_any (λ s. bytes_eq s c) compats) (compatible_in (reading f.1)) false
+
+abbrev pub matching_from : List (List ℕ) → ℕ → List File → List ℕ
+matching_from compats k [] = []
+matching_from compats k (f ∷ fs) =
+    if is_matching compats f then k ∷ matching_from compats (k + 1) fs else matching_from compats (k + 1) fs
+
+-- the numbers of the matching bindings, in list order
+abbrev pub matching : List (List ℕ) → List File → List ℕ
+matching compats files = matching_from compats 0 files
+
+-- Step two: a matching binding with its includes is without fault.
+pub record IsSound (files : List FileData) (k : ℕ) (levels : List LevelTable) : Type 0 where
+  pub walked : binding_walk files k ≡ None
+  pub agrees : HasConflict files k → ⊥
+  pub merged : IsMerged files k levels
+  pub rules : merged_rule levels ≡ None
+
+-- the bus that a merged binding is for
+abbrev pub bus_of : List LevelTable → Option (List ℕ)
+bus_of [] = None
+bus_of (l ∷ ls) = l.on_bus
+
+-- a binding of the library is the one of its file
+pub record IsBinding (files : List File) (b : BindingData) : Type 0 where
+  pub file : File
+  pub file_is : slice_get files b.file ≡ Some file
+  pub compatible_is : compatible_in (reading file.1) ≡ Some b.compatible
+  pub sound : IsSound (read_files files) b.file b.levels
+  pub bus_is : b.bus ≡ bus_of b.levels
+
+abbrev pub AreBindings : List File → List BindingData → Type 0
+AreBindings files [] = Unit {0}
+AreBindings files (b ∷ bs) = IsBinding files b × AreBindings files bs
+
+-- the fault of step two at a binding: of its walk, then B11, then of the rules of the merged binding
+abbrev pub BreaksAt : List FileData → ℕ → Fault → Type 0
+BreaksAt files k fault = (binding_walk files k ≡ Some fault)
+    ⊎ ((binding_walk files k ≡ None) × HasConflict files k × (fault ≡ file_fault rule.B11 (name_of files k)))
+    ⊎ ((binding_walk files k ≡ None) × (HasConflict files k → ⊥) × Breaks)
+  where
+    Breaks : Type 0
+    Breaks = (levels : List LevelTable) × IsMerged files k levels
+        × (merged_rule levels ≡ Some fault.rule) × (fault ≡ file_fault fault.rule (name_of files k))
+
+-- Step three: the first binding for which an earlier one is for the same string and bus.
+abbrev pub twin_fault_from : List FileData → List BindingData → List BindingData → Option Fault
+twin_fault_from files before [] = None
+twin_fault_from files before (b ∷ bs) =
+    if list_any (is_for b.compatible b.bus) before then Some (file_fault rule.B12 (name_of files b.file))
+    else twin_fault_from files (before ++ b ∷ []) bs
+
+abbrev pub twin_fault : List FileData → List BindingData → Option Fault
+twin_fault files bs = twin_fault_from files [] bs
+
+-- what a load without fault leaves: step one has none, the bindings are the matching ones, each
+-- without fault and merged, and no two are for one string and bus
+pub record IsLoaded (files : List File) (compats : List (List ℕ)) (bindings : List BindingData) : Type 0 where
+  pub texts : first_some (text_fault compats) files ≡ None
+  pub files_are : map (λ (b : BindingData). b.file) bindings ≡ matching compats files
+  pub bindings_are : AreBindings files bindings
+  pub single : twin_fault (read_files files) bindings ≡ None
+
+-- the first fault of step two: the matching bindings before this one are without fault
+pub record IsFirstBroken (files : List File) (compats : List (List ℕ)) (fault : Fault) : Type 0 where
+  pub before : List BindingData
+  pub broken : ℕ
+  pub after : List ℕ
+  pub parts : matching compats files ≡ map (λ (b : BindingData). b.file) before ++ broken ∷ after
+  pub before_are : AreBindings files before
+  pub breaks : BreaksAt (read_files files) broken fault
+
+-- the first fault of step three
+pub record IsFirstTwin (files : List File) (compats : List (List ℕ)) (fault : Fault) : Type 0 where
+  pub bindings : List BindingData
+  pub files_are : map (λ (b : BindingData). b.file) bindings ≡ matching compats files
+  pub bindings_are : AreBindings files bindings
+  pub twin : twin_fault (read_files files) bindings ≡ Some fault
+
+-- the first fault of loading: a step is tested where the ones before it have none
+abbrev pub IsFirstFault : List File → List (List ℕ) → Fault → Type 0
+IsFirstFault files compats fault = (first_some (text_fault compats) files ≡ Some fault)
+    ⊎ ((first_some (text_fault compats) files ≡ None) × (IsFirstBroken files compats fault ⊎ IsFirstTwin files compats fault))
