@@ -8,6 +8,7 @@ pub mod Disagreeing
 pub mod Halving
 pub mod Heights
 pub mod Included
+pub mod Indexed
 pub mod JoinSteps
 pub mod Joined
 pub mod JoinedLevels
@@ -15,14 +16,18 @@ pub mod JoinedLists
 pub mod Kept
 pub mod LevelClashes
 pub mod Looked
+pub mod Matched
 pub mod MergedRecord
 pub mod NamedFiles
+pub mod Places
 pub mod ReadAnswers
 pub mod Sorting
 pub mod Spreading
 pub mod Stringing
 pub mod TablesOf
 pub mod Telling
+pub mod Tested
+pub mod Twinned
 pub mod Typed
 pub mod United
 pub mod Walking

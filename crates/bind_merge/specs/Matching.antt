@@ -32,7 +32,7 @@ is_same _ _ = false
 
 -- a binding is for this compatible string on this bus, or on none
 abbrev pub is_for : List File → Option (List ℕ) → Option (List ℕ) → BindingData → Bool
-is_for files compat bus b = is_same compat (compatible_at files b.file) && is_same bus (bus_of b.levels)
+is_for files compat bus b = is_same (compatible_at files b.file) compat && is_same (bus_of b.levels) bus
 
 -- the file of the first binding that is
 abbrev pub find_in : List File → List ℕ → Option (List ℕ) → List BindingData → Option ℕ
