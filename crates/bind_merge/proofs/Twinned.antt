@@ -1,8 +1,9 @@
 -- The bindings that an index finds, with one more.
-use Rattle.std.proofs.Common.{◌≡◌, ◌∙◌, sym, ap, refl, ℕ, Bool, true, false, ◌||◌, ◌&&◌, if◌then◌else◌, List, [], ◌∷◌, ◌++◌, append_assoc, Option, Some, None, is_some, map}
+use Rattle.std.proofs.Common.{◌≡◌, ◌∙◌, sym, ap, subst, refl, ◌+◌, ◌<◌, length, get_or, take, drop, ℕ, Bool, true, false, ◌||◌, ◌&&◌, if◌then◌else◌, List, [], ◌∷◌, ◌++◌, append_assoc, Option, Some, None, is_some, map}
 use Rattle.std.specs.List.{list_any}
 use Rattle.std.specs.Str.{bytes_eq}
 use Rattle.std.proofs.lemmas.Bool.Decides.{Decides-eqb}
+use Rattle.std.proofs.lemmas.Option.{slice_get-get_or}
 use Rattle.std.proofs.lemmas.Slice.Eq.{bytes_eq-Decides}
 use Rattle.edt_base.specs.declared.fault.Fault.{Fault}
 use Rattle.edt_base.specs.declared.fault.Rule.TheVariants as rule
@@ -12,7 +13,12 @@ use Rattle.bind_merge.specs.Listing.{File, read_files}
 use Rattle.bind_merge.specs.Loading.{is_twin, twin_fault, twin_fault_from}
 use Rattle.bind_merge.specs.Matching.{bus_of, compatible_at, find_in, is_bound, is_for, is_same}
 use Rattle.bind_merge.specs.Options.{or_else}
+use Rattle.bind_merge.specs.declared.matching.Match.{Match}
 use Rattle.bind_merge.specs.Inner.Indexing.{HasPair, IndexData, IsIndexOf, in_index}
+use Rattle.bind_merge.specs.Inner.Resolving.{ResolvedData, resolved_at}
+use Rattle.bind_merge.specs.Inner.Steps.{AreStrings, binding_at, bindings_at, levels_in, numbers_of}
+use Rattle.bind_merge.proofs.Matched.{string_at}
+use Rattle.bind_merge.proofs.Places.{at_split, at_take}
 
 or-none : {A : Type 0} (o : Option A) → or_else o None ≡ o
 or-none None = refl
@@ -131,3 +137,44 @@ found_bound files q r (b ∷ bs) k e = at (is_for files (Some q) r b) e
     at : (t : Bool) → (if t then Some b.file else find_in files q r bs) ≡ Some k → is_bound (b ∷ bs) k ≡ true
     at true h = let s : b.file ≡ k = cc in or-left _ _ ((Decides-eqb b.file k).1 s)
     at false h = or-right _ _ (found_bound files q r bs k h)
+
+-- ---- the bindings of the matching files in order
+
+module _ (files : List File) (resolved : List (Option ResolvedData)) (ms : List Match) (i : ℕ) (m : Match) (l : i < length ms) (is : get_or ms i m ≡ m)
+    (strings : AreStrings files ms) (index more : IndexData)
+    (of : IsIndexOf files (bindings_at resolved (numbers_of (take i ms))) index)
+    (none : twin_fault files (bindings_at resolved (numbers_of (take i ms))) ≡ None) where
+  abbrev the_before : List BindingData
+  the_before = bindings_at resolved (numbers_of (take i ms))
+
+  abbrev the_one : BindingData
+  the_one = binding_at resolved m.file
+
+  abbrev the_bus : Option (List ℕ)
+  the_bus = bus_of (levels_in (resolved_at resolved m.file))
+
+  string : compatible_at files m.file ≡ Some m.compatible
+  string = string_at files ms i m (slice_get-get_or ms i m l ∙ ap Some is) strings
+
+  joined : (xs ys : List Match) → bindings_at resolved (numbers_of (xs ++ ys)) ≡ bindings_at resolved (numbers_of xs) ++ bindings_at resolved (numbers_of ys)
+  joined [] ys = refl
+  joined (x ∷ xs) ys = ap (λ bs. binding_at resolved x.file ∷ bs) (joined xs ys)
+
+  more-is : bindings_at resolved (numbers_of (take (i + 1) ms)) ≡ the_before ++ the_one ∷ []
+  more-is = ap (λ xs. bindings_at resolved (numbers_of xs)) (at_take ms i m l is) ∙ joined (take i ms) (m ∷ [])
+
+  all-is : bindings_at resolved (numbers_of ms) ≡ the_before ++ the_one ∷ bindings_at resolved (numbers_of (drop (i + 1) ms))
+  all-is = ap (λ xs. bindings_at resolved (numbers_of xs)) (at_split ms i m l is) ∙ joined (take i ms) (m ∷ drop (i + 1) ms)
+
+  pub indexed_more : in_index index m.compatible the_bus ≡ None → HasPair index m.compatible the_bus m.file more
+      → IsIndexOf files (bindings_at resolved (numbers_of (take (i + 1) ms))) more × (twin_fault files (bindings_at resolved (numbers_of (take (i + 1) ms))) ≡ None)
+  indexed_more free has = (
+    subst (λ bs. IsIndexOf files bs more) (sym more-is) (index_more files the_before the_one m.compatible the_bus index of string refl more free has),
+    ap (twin_fault files) more-is ∙ single_more files the_before the_one m.compatible the_bus index of string refl free none,
+  )
+
+  pub first_twin : (f : Fault) → is_some (in_index index m.compatible the_bus) ≡ true → f ≡ file_fault rule.B12 (name_of (read_files files) m.file)
+      → twin_fault files (bindings_at resolved (numbers_of ms)) ≡ Some f
+  first_twin f taken e =
+      ap (twin_fault files) all-is
+      ∙ (twin_found files the_before the_one m.compatible the_bus index of string refl (bindings_at resolved (numbers_of (drop (i + 1) ms))) taken none ∙ ap Some (sym e))

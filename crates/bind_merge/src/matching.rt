@@ -1,6 +1,6 @@
 //! Step one of loading: the files that are read as YAML, and the matching bindings among them.
 
-ghost use Rattle.std.specs.Prelude.{◌≡◌, ◌<◌, IfOk, length};
+ghost use Rattle.std.specs.Prelude.{◌≡◌, ◌+◌, ◌<◌, IfOk, OnOk, Some, length, take};
 ghost use Rattle.bind_merge.specs.Loading.{OnFault, text_fault};
 ghost use Rattle.bind_merge.specs.Options.{first_some};
 ghost use Rattle.bind_merge.specs.Inner.Heights.{AreNone};
@@ -43,19 +43,38 @@ pub(crate) fn matching(
     let strings = Strings::of(alloc, compats)?;
     let mut matches = Vec::new(alloc);
     for at in 0..files.len() {
-        let entry = &files[at];
-        match match_file(alloc, &strings, &entry.0, &entry.1)? {
-            Some(Found { compatible, read }) => {
-                matches.push(Match {
-                    file: FileNo(at as u32),
-                    compatible,
-                })?;
-                reads[at] = Some(read);
-            }
-            None => {}
-        }
+        match_at(alloc, files, at, &strings, &mut matches, reads)?;
     }
     Ok(matches)
+}
+
+// Goes on to the file at this place.
+fn match_at(
+    alloc: Global,
+    files: &[(Text, Bytes)],
+    at: usize,
+    strings: &Strings<'_>,
+    matches: &mut Vec<Match>,
+    reads: &mut Vec<Option<Read>>,
+) -> Result<(), End>
+    requires small { length files.now < 4294967296 }
+    requires listed { at < length files.now }
+    requires had { HasMatched files.now (take at files.now) strings.now matches.old.items reads.old.items }
+    ensures has { OnOk result (HasMatched files.now (take (at + 1) files.now) strings.now matches.new.items reads.new.items) }
+    ensures fault { OnFault result (λ f. first_some (text_fault strings.now) files.now ≡ Some f) }
+{
+    let entry = &files[at];
+    match match_file(alloc, strings, &entry.0, &entry.1)? {
+        Some(Found { compatible, read }) => {
+            matches.push(Match {
+                file: FileNo(at as u32),
+                compatible,
+            })?;
+            reads[at] = Some(read);
+            Ok(())
+        }
+        None => Ok(()),
+    }
 }
 
 // What step one makes of a file.

@@ -28,6 +28,9 @@ fn library(alloc: Global, listing: &str) -> Result<Library, AllocError> {
         }
     }
     files.push((name, Bytes::new(Vec::from_slice(alloc, bytes.as_bytes())?)))?;
+    if files.len() > 1000 {
+        return Err(AllocError);
+    }
     Ok(Library::new(files))
 }
 
