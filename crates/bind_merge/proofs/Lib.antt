@@ -5,6 +5,7 @@ pub mod Bringing
 pub mod Clashing
 pub mod Covered
 pub mod Disagreeing
+pub mod Gone
 pub mod Halving
 pub mod Heights
 pub mod Included
@@ -15,6 +16,8 @@ pub mod JoinedLevels
 pub mod JoinedLists
 pub mod Kept
 pub mod LevelClashes
+pub mod Libraries
+pub mod Loads
 pub mod Looked
 pub mod Matched
 pub mod MergedRecord

@@ -1,6 +1,6 @@
 //! The matching bindings by compatible string and bus.
 
-ghost use Rattle.std.specs.Prelude.{◌≡◌, [], ℕ, List, IfOk, OnOk, Some, false, if◌then◌else◌};
+ghost use Rattle.std.specs.Prelude.{◌≡◌, [], ℕ, List, IfOk, OnOk, Option, Some, false, if◌then◌else◌};
 ghost use Rattle.std.specs.Map.{lookup};
 ghost use Rattle.std.specs.Option.{option_map};
 ghost use Rattle.std.specs.Str.{bytes_eq};
@@ -10,7 +10,6 @@ ghost use Rattle.bind_merge.specs.Inner.Indexing.{HasPair, in_group, in_index};
 use edt_base::{FileNo, Text};
 use std::alloc::{AllocError, Global};
 use std::collections::BTreeMap;
-use std::marker::Model;
 
 /// The bindings for one compatible string: the one for no bus, and those for buses.
 #[derive(Debug, Drop)]
@@ -23,14 +22,6 @@ pub(crate) struct Group {
 #[derive(Debug, Drop)]
 pub(crate) struct Index {
     groups: BTreeMap<Text, Group>,
-}
-
-impl Model for Index {
-    ghost use Rattle.bind_merge.specs.Inner.Indexing.{IndexData};
-
-    ghost Value = { IndexData };
-
-    ghost view = { λ i. i.groups.entries };
 }
 
 fn on_bus(on_buses: &BTreeMap<Text, FileNo>, bus: &Text) -> Option<FileNo>
@@ -139,7 +130,7 @@ fn add(
 impl Index {
     /// No bindings.
     pub(crate) fn new(alloc: Global) -> Index
-        ensures { result ≡ [] }
+        ensures { result.groups.entries ≡ [] }
     {
         Index {
             groups: BTreeMap::new(alloc),
@@ -148,7 +139,7 @@ impl Index {
 
     /// The file for a compatible string on a bus, or on none; None exactly where there is none.
     pub(crate) fn find(&self, compat: &Text, bus: Option<&Text>) -> Option<FileNo>
-        ensures { result ≡ in_index self.now compat.now (option_map (λ t. t.now) bus.entry) }
+        ensures { result ≡ in_index self.now.groups.entries compat.now (option_map (λ t. t.now) bus.entry) }
     {
         in_groups(&self.groups, compat, bus)
     }
@@ -161,7 +152,7 @@ impl Index {
         bus: Option<Text>,
         file: FileNo,
     ) -> Result<(), AllocError>
-        ensures { OnOk result (HasPair self.old compat bus file self.new) }
+        ensures { OnOk result (HasPair self.old.groups.entries compat bus file self.new.groups.entries) }
     {
         add(alloc, &mut self.groups, compat, bus, file)?;
         Ok(())

@@ -117,7 +117,7 @@ impl Library {
 fn load_files(alloc: Global, files: &[(Text, Bytes)], compats: &[Text]) -> Result<Loaded, End>
     requires { length files.now < 4294967296 }
     ensures loaded { IfOk result (λ l. IsLoaded files.now compats.now (bindings_at l.resolved.items l.bindings.items)) }
-    ensures index { IfOk result (λ l. IsIndexOf files.now (bindings_at l.resolved.items l.bindings.items) l.index) }
+    ensures index { IfOk result (λ l. IsIndexOf files.now (bindings_at l.resolved.items l.bindings.items) l.index.groups.entries) }
     ensures fault { OnFault result (IsFirstFault files.now compats.now) }
 {
     let mut reads = none_each(alloc, files.len())?;

@@ -27,7 +27,7 @@ pub(crate) fn index_of(
     resolved: &[Option<Resolved>],
 ) -> Result<Index, End>
     requires { AreStrings files.now matches.now }
-    ensures index { IfOk result (IsIndexOf files.now (bindings_at resolved.now (numbers_of matches.now))) }
+    ensures index { IfOk result (λ i. IsIndexOf files.now (bindings_at resolved.now (numbers_of matches.now)) i.groups.entries) }
     ensures single { OnOk result (twin_fault files.now (bindings_at resolved.now (numbers_of matches.now)) ≡ None) }
     ensures fault { OnFault result (λ f. twin_fault files.now (bindings_at resolved.now (numbers_of matches.now)) ≡ Some f) }
 {
@@ -47,9 +47,9 @@ fn add_match(
     index: &mut Index,
 ) -> Result<(), End>
     requires { compatible_at files.now found.now.file ≡ Some found.now.compatible }
-    ensures free { OnOk result (in_index index.old found.now.compatible (bus_of (levels_in (resolved_at resolved.now found.now.file))) ≡ None) }
-    ensures added { OnOk result (HasPair index.old found.now.compatible (bus_of (levels_in (resolved_at resolved.now found.now.file))) found.now.file index.new) }
-    ensures taken { OnFault result (λ f. is_some (in_index index.old found.now.compatible (bus_of (levels_in (resolved_at resolved.now found.now.file)))) ≡ true) }
+    ensures free { OnOk result (in_index index.old.groups.entries found.now.compatible (bus_of (levels_in (resolved_at resolved.now found.now.file))) ≡ None) }
+    ensures added { OnOk result (HasPair index.old.groups.entries found.now.compatible (bus_of (levels_in (resolved_at resolved.now found.now.file))) found.now.file index.new.groups.entries) }
+    ensures taken { OnFault result (λ f. is_some (in_index index.old.groups.entries found.now.compatible (bus_of (levels_in (resolved_at resolved.now found.now.file)))) ≡ true) }
     ensures fault { OnFault result (λ f. f ≡ file_fault rule.B12 (name_of (read_files files.now) found.now.file)) }
 {
     let entry = &files[found.file.0 as usize];

@@ -15,4 +15,4 @@ bindings_in (Some l) = bindings_at l.resolved.items l.bindings.items
 abbrev pub IsKept : List File → Option Loaded → Type 0
 IsKept files None = Unit {0}
 IsKept files (Some l) = AreSound (read_files files) (bindings_at l.resolved.items l.bindings.items)
-    × IsIndexOf files (bindings_at l.resolved.items l.bindings.items) l.index
+    × IsIndexOf files (bindings_at l.resolved.items l.bindings.items) l.index.groups.entries

@@ -6,5 +6,5 @@ use Rattle.bind_merge.proofs.twins.index_of.Given as goal
 
 abbrev pub invariant-loop-found : goal.invariant-loop-found
 invariant-loop-found l =
-    IsIndexOf l.files (bindings_at l.resolved (numbers_of (take l.found-index l.matches))) l.index
+    IsIndexOf l.files (bindings_at l.resolved (numbers_of (take l.found-index l.matches))) l.index.groups.entries
     × (twin_fault l.files (bindings_at l.resolved (numbers_of (take l.found-index l.matches))) ≡ None)
