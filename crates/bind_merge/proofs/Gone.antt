@@ -1,8 +1,9 @@
 -- The way down to a binding's first fault, file by file.
-use Rattle.std.proofs.Common.{◌≡◌, ◌≢◌, ◌∙◌, sym, ap, subst, refl, ℕ, suc, ◌+◌, ◌-◌, ◌<◌, ◌≤◌, ◌++◌, true, List, [], ◌∷◌, Option, Some, None, is_some, length, get_or, arith}
+use Rattle.std.proofs.Common.{◌≡◌, ◌≢◌, ◌∙◌, sym, ap, subst, refl, ℕ, suc, ◌+◌, ◌-◌, ◌<◌, ◌≤◌, ◌++◌, Bool, true, false, nat_lt, List, [], ◌∷◌, Option, Some, None, is_some, length, get_or, arith}
 use Rattle.std.specs.List.{slice_get}
 use Rattle.std.specs.Option.{option_and_then}
-use Rattle.std.proofs.lemmas.Option.{slice_get-get_or}
+use Rattle.std.proofs.lemmas.Bool.Decides.{Decides-ltb}
+use Rattle.std.proofs.lemmas.Option.{slice_get_read, slice_get_within}
 use Rattle.edt_base.specs.declared.fault.Fault.{Fault}
 use Rattle.bind_merge.specs.Files.{FileData}
 use Rattle.bind_merge.specs.Listing.{File, read_files}
@@ -15,6 +16,10 @@ use Rattle.bind_merge.specs.Inner.Resolving.{NameData, ResolvedData}
 use Rattle.bind_merge.specs.Inner.Ways.{ComesTo, HasCome, IsKnown, next_of}
 use Rattle.bind_merge.proofs.Tested.{name_listed, read_listed}
 use Rattle.bind_merge.proofs.Ways.{StepsTo, way_begins, way_step}
+
+-- what is read at a place
+pub got : {X : Type 0} (xs : List X) (j k : ℕ) (x : X) → j ≡ k → j < length xs → x ≡ get_or xs j x → slice_get xs k ≡ Some x
+got xs j k x e l is = subst (λ i. slice_get xs i ≡ Some x) e (slice_get_read xs (length xs) j x refl l is)
 
 module _ (files : List File) (names : NameData) (reads : List (Option Read)) (resolved : List (Option ResolvedData)) (b : ℕ)
     (known : IsKnown (read_files files) names reads resolved) (broken : binding_walk (read_files files) b ≢ None) where
@@ -36,20 +41,25 @@ module _ (files : List File) (names : NameData) (reads : List (Option Read)) (re
       = subst (λ ks. StepsTo (read_files files) reads b left ks (next_of names resolved f.0 left ks r)) (sym is-more) two in
       subst (λ m. StepsTo (read_files files) reads b left more m) (sym is) three
 
-  pub never_unlisted : (depth k : ℕ) (items : List ℕ) → HasCome (read_files files) reads b depth k items → slice_get files k ≡ None → ⊥
-  never_unlisted depth k items h e =
+  pub never_unlisted : (depth j k : ℕ) (items : List ℕ) → j ≡ k → false ≡ nat_lt j (length files) → HasCome (read_files files) reads b depth k items → ⊥
+  never_unlisted depth j k items e n h =
       let l : k < length files = read_listed files reads k known.read h.2.read in
-      listed files k l e
-    where
-      listed : (fs : List File) (j : ℕ) → j < length fs → slice_get fs j ≡ None → ⊥
-      listed [] j l n = omega arith
-      listed (x ∷ xs) j l n = let y : slice_get (x ∷ xs) j ≡ Some (get_or (x ∷ xs) j x) = slice_get-get_or (x ∷ xs) j x l in cc
-
-  pub never_unread : (depth k : ℕ) (items : List ℕ) → HasCome (read_files files) reads b depth k items → slice_get reads k ≡ None → ⊥
-  never_unread depth k items h e =
-      let r : is_read_at reads k ≡ true = h.2.read in
-      let f : is_read_at reads k ≡ is_some (option_and_then (λ (x : Option Read). x) None) = ap (λ o. is_some (option_and_then (λ x. x) o)) e in
+      let t : nat_lt k (length files) ≡ true = (Decides-ltb k (length files)).1 l in
+      let f : nat_lt j (length files) ≡ nat_lt k (length files) = ap (λ i. nat_lt i (length files)) e in
       cc
+
+  pub never_unread : (depth j k : ℕ) (items : List ℕ) → j ≡ k → false ≡ nat_lt j (length reads) → HasCome (read_files files) reads b depth k items → ⊥
+  never_unread depth j k items e n h = at (slice_get reads k) refl h.2.read
+    where
+      at : (o : Option (Option Read)) → slice_get reads k ≡ o → is_read_at reads k ≡ true → ⊥
+      at None g r =
+          let f : is_read_at reads k ≡ false = ap (λ (x : Option (Option Read)). is_some (option_and_then (λ y. y) x)) g in
+          cc
+      at (Some x) g r =
+          let l : k < length reads = slice_get_within reads k x g in
+          let t : nat_lt k (length reads) ≡ true = (Decides-ltb k (length reads)).1 l in
+          let f : nat_lt j (length reads) ≡ nat_lt k (length reads) = ap (λ i. nat_lt i (length reads)) e in
+          cc
 
 pub way_down : (files : List FileData) (reads : List (Option Read)) (b depth above left t : ℕ) (items : List ℕ) → left ≡ 16 - depth → above ≡ depth + 1
     → StepsTo files reads b left items (next.Down t) → HasCome files reads b above t items

@@ -18,18 +18,26 @@ pub tree_others : {X : Type 0} (old new : List (List ℕ × X)) (name : List ℕ
     → (q : List ℕ) → bytes_eq name q ≡ false → lookup (bytes_eq q) new ≡ lookup (bytes_eq q) old
 tree_others old new name h q e = tree-sets old new name None h q ∙ ap (λ b. cond b None (lookup (bytes_eq q) old)) e
 
-pub group_on : (alone : Option ℕ) (old new : BTreeMap (List ℕ) ℕ) (bus : List ℕ) (file : ℕ)
+pub group_on : (alone : Option ℕ) (old new : BTreeMap (List ℕ) ℕ) (for : Option (List ℕ)) (bus : List ℕ) (file : ℕ) → for ≡ Some bus
     → ((q : List ℕ) → lookup (bytes_eq q) new.entries ≡ (if bytes_eq bus q then Some file else lookup (bytes_eq q) old.entries))
     → (r : Option (List ℕ)) → in_group (record { alone = alone; on_buses = new }) r
-    ≡ (if is_same (Some bus) r then Some file else in_group (record { alone = alone; on_buses = old }) r)
-group_on alone old new bus file h None = refl
-group_on alone old new bus file h (Some q) = h q
+    ≡ (if is_same for r then Some file else in_group (record { alone = alone; on_buses = old }) r)
+group_on alone old new for bus file e h r = at r ∙ ap (λ x. if is_same x r then Some file else in_group (record { alone = alone; on_buses = old }) r) (sym e)
+  where
+    at : (q : Option (List ℕ)) → in_group (record { alone = alone; on_buses = new }) q
+        ≡ (if is_same (Some bus) q then Some file else in_group (record { alone = alone; on_buses = old }) q)
+    at None = refl
+    at (Some q) = h q
 
-pub group_alone : (alone : Option ℕ) (on_buses : BTreeMap (List ℕ) ℕ) (file : ℕ) (r : Option (List ℕ))
-    → in_group (record { alone = Some file; on_buses = on_buses }) r
-    ≡ (if is_same None r then Some file else in_group (record { alone = alone; on_buses = on_buses }) r)
-group_alone alone on_buses file None = refl
-group_alone alone on_buses file (Some q) = refl
+pub group_alone : (alone : Option ℕ) (on_buses : BTreeMap (List ℕ) ℕ) (for : Option (List ℕ)) (file : ℕ) → for ≡ None
+    → (r : Option (List ℕ)) → in_group (record { alone = Some file; on_buses = on_buses }) r
+    ≡ (if is_same for r then Some file else in_group (record { alone = alone; on_buses = on_buses }) r)
+group_alone alone on_buses for file e r = at r ∙ ap (λ x. if is_same x r then Some file else in_group (record { alone = alone; on_buses = on_buses }) r) (sym e)
+  where
+    at : (q : Option (List ℕ)) → in_group (record { alone = Some file; on_buses = on_buses }) q
+        ≡ (if is_same None q then Some file else in_group (record { alone = alone; on_buses = on_buses }) q)
+    at None = refl
+    at (Some q) = refl
 
 pub no_group : (on_buses : BTreeMap (List ℕ) ℕ) → on_buses.entries ≡ [] → (r : Option (List ℕ))
     → in_group (record { alone = None; on_buses = on_buses }) r ≡ None

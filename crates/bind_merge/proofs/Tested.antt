@@ -1,11 +1,15 @@
 -- Step two of loading, at one binding and at those in order.
-use Rattle.std.proofs.Common.{◌≡◌, ◌≢◌, ◌∙◌, sym, ap, subst, refl, inl, inr, ◌⊎◌, ℕ, ◌+◌, ◌<◌, ◌≤◌, Bool, true, false, List, [], ◌∷◌, ◌++◌, length, get_or, take, drop, map, Option, Some, None, is_some, arith}
+use Rattle.std.proofs.Common.{◌≡◌, ◌≢◌, ◌∙◌, sym, ap, subst, refl, inl, inr, ◌⊎◌, ℕ, ◌+◌, ◌<◌, ◌≤◌, Bool, true, false, List, [], ◌∷◌, ◌++◌, length, get_or, take, drop, map, Option, Some, None, Result, Ok, Err, OnOk, is_some, arith}
 use Rattle.std.specs.List.{slice_get}
-use Rattle.std.specs.Option.{option_map, option_map_or}
+use Rattle.std.specs.Option.{option_and_then, option_map, option_map_or}
 use Rattle.std.proofs.lemmas.List.{map-append}
 use Rattle.std.proofs.lemmas.Option.{slice_get-map, slice_get-get_or, slice_get_within}
+use Rattle.edt_base.specs.declared.fault.End.{End}
+use Rattle.edt_base.specs.declared.fault.End.TheVariants as ending
 use Rattle.edt_base.specs.declared.fault.Fault.{Fault}
+use Rattle.bind_load.specs.RecordData.{LevelData}
 use Rattle.edt_base.specs.declared.fault.Rule.TheVariants as rule
+use Rattle.yaml_profile.specs.Reading.{reading}
 use Rattle.bind_merge.specs.Checks.{merged_rule}
 use Rattle.bind_merge.specs.Cleanness.{is_clean}
 use Rattle.bind_merge.specs.Conflicts.{HasConflict}
@@ -13,7 +17,8 @@ use Rattle.bind_merge.specs.Files.{FileData, file_fault, name_of, record_at}
 use Rattle.bind_merge.specs.Levels.{LevelTable}
 use Rattle.bind_merge.specs.LibraryData.{BindingData}
 use Rattle.bind_merge.specs.Listing.{File, file_data, read_files}
-use Rattle.bind_merge.specs.Loading.{AreSound, BreaksAt, IsFirstBroken, IsSound, files_of}
+use Rattle.bind_merge.specs.Loading.{AreSound, BreaksAt, IsFirstBroken, IsSound, OnFault, files_of}
+use Rattle.bind_merge.specs.Matching.{compatible_at, compatible_in}
 use Rattle.bind_merge.specs.Merging.{IsMerged}
 use Rattle.bind_merge.specs.Walks.{binding_walk}
 use Rattle.bind_merge.specs.declared.reading.Read.{Read}
@@ -36,16 +41,23 @@ read_listed files reads k a e = at (read_at reads k) refl e
     listed None f g = absurd cc
     listed (Some x) f g = slice_get_within files k x f
 
+    some : (o : Option File) (c : Result (List LevelData) Fault) → option_map (λ (d : FileData). d.content) (option_map file_data o) ≡ Some c → is_some o ≡ true
+    some None c h = absurd cc
+    some (Some y) c h = refl
+
     at : (o : Option Read) → read_at reads k ≡ o → is_some o ≡ true → k < length files
     at None f g = absurd cc
     at (Some r) f g =
         let x : IsReadAt (read_files files) k r = a k r f in
-        listed (slice_get files k) refl (some (slice_get files k)
+        listed (slice_get files k) refl (some (slice_get files k) x.content
         (ap (option_map (λ (d : FileData). d.content)) (sym (slice_get-map file_data files k)) ∙ x.content_is))
-      where
-        some : (o : Option File) → option_map (λ (d : FileData). d.content) (option_map file_data o) ≡ Some x.content → is_some o ≡ true
-        some None h = absurd cc
-        some (Some y) h = refl
+
+pub string_listed : (files : List File) (k : ℕ) (text : List ℕ) → compatible_at files k ≡ Some text → k < length files
+string_listed files k text e = at (slice_get files k) refl e
+  where
+    at : (o : Option File) → slice_get files k ≡ o → option_and_then (λ (f : File). compatible_in (reading f.1)) o ≡ Some text → k < length files
+    at None g h = absurd cc
+    at (Some x) g h = slice_get_within files k x g
 
 pub name_listed : (files : List File) (k : ℕ) (f : File) → slice_get files k ≡ Some f → name_of (read_files files) k ≡ f.0
 name_listed files k f e =
@@ -97,10 +109,19 @@ module _ (files : List FileData) (names : NameData) (reads : List (Option Read))
       where
         at : (o : Option (List LevelTable)) → r.levels ≡ o → BreaksRule name o f → BreaksAt files b f
         at None e h =
-            inr (inl (walked b r found, settled None e, h ∙ ap (file_fault rule.B11) (sym n)))
+            inr (walked b r found, inl (settled None e, h ∙ ap (file_fault rule.B11) (sym n)))
         at (Some ls) e h =
             let s : IsMerged files b ls × (HasConflict files b → ⊥) = settled (Some ls) e in
-            inr (inr (walked b r found, s.1, (ls, s.0, h.0, h.1 ∙ ap (file_fault f.rule) (sym n))))
+            inr (walked b r found, inr (s.1, (ls, s.0, h.0, h.1 ∙ ap (file_fault f.rule) (sym n))))
+
+    pub tells_sound : (o : Result (Unit {0}) End) → OnOk o (KeepsRules r.levels) → OnOk o (IsSound files b (levels_in (resolved_at resolved b)))
+    tells_sound (Ok u) h = is_sound h
+    tells_sound (Err e) h = tt
+
+    pub tells_broken : (name : List ℕ) → name_of files b ≡ name → (o : Result (Unit {0}) End) → OnFault o (BreaksRule name r.levels) → OnFault o (BreaksAt files b)
+    tells_broken name n (Ok u) h = tt
+    tells_broken name n (Err (ending.Fault f)) h = is_broken name f n h
+    tells_broken name n (Err (ending.Memory e)) h = tt
 
 -- ---- the bindings in order
 

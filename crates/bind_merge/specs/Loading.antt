@@ -67,15 +67,19 @@ AreSound files (b ∷ bs) = IsSound files b.file b.levels × AreSound files bs
 abbrev pub files_of : List BindingData → List ℕ
 files_of bs = map (λ (b : BindingData). b.file) bs
 
--- the fault of step two at a binding: of its walk, then B11, then of the rules of the merged binding
+-- the first rule that a file's merged binding breaks
+abbrev pub BreaksRules : List FileData → ℕ → Fault → Type 0
+BreaksRules files k fault = (levels : List LevelTable) × IsMerged files k levels
+    × (merged_rule levels ≡ Some fault.rule) × (fault ≡ file_fault fault.rule (name_of files k))
+
+-- B11, or else that rule
+abbrev pub BreaksMerged : List FileData → ℕ → Fault → Type 0
+BreaksMerged files k fault = (HasConflict files k × (fault ≡ file_fault rule.B11 (name_of files k)))
+    ⊎ ((HasConflict files k → ⊥) × BreaksRules files k fault)
+
+-- the fault of step two at a binding: the first of its walk, or else of the merged binding
 abbrev pub BreaksAt : List FileData → ℕ → Fault → Type 0
-BreaksAt files k fault = (binding_walk files k ≡ Some fault)
-    ⊎ ((binding_walk files k ≡ None) × HasConflict files k × (fault ≡ file_fault rule.B11 (name_of files k)))
-    ⊎ ((binding_walk files k ≡ None) × (HasConflict files k → ⊥) × Breaks)
-  where
-    Breaks : Type 0
-    Breaks = (levels : List LevelTable) × IsMerged files k levels
-        × (merged_rule levels ≡ Some fault.rule) × (fault ≡ file_fault fault.rule (name_of files k))
+BreaksAt files k fault = (binding_walk files k ≡ Some fault) ⊎ ((binding_walk files k ≡ None) × BreaksMerged files k fault)
 
 -- the first fault of step two at these bindings: those before this one are without fault
 pub record IsFirstBroken (files : List FileData) (ks : List ℕ) (fault : Fault) : Type 0 where
