@@ -1,9 +1,9 @@
 -- Resolving the files of one height, those below being resolved.
-use Rattle.std.proofs.Common.{◌≡◌, ◌∙◌, sym, ap, subst, refl, ◌+◌, ◌-◌, ◌<◌, ◌≤◌, ◌≢◌, ◌&&◌, ◌++◌, ℕ, zero, suc, Bool, true, false, List, [], ◌∷◌, length, map, Option, Some, None, Result, Ok, Err, is_some, nat_lt, nat_eq, arith}
+use Rattle.std.proofs.Common.{◌≡◌, ◌∙◌, sym, ap, subst, refl, ◌+◌, ◌-◌, ◌<◌, ◌≤◌, ◌≢◌, ◌&&◌, ◌++◌, ℕ, zero, suc, Bool, true, false, List, [], ◌∷◌, get_or, length, map, Option, Some, None, Result, Ok, Err, is_some, nat_lt, nat_eq, arith}
 use Rattle.std.specs.List.{list_all, slice_get, slice_set}
 use Rattle.std.specs.Option.{option_and_then}
 use Rattle.std.proofs.lemmas.Bool.Decides.{Decides-ltb, Decides-eqb}
-use Rattle.std.proofs.lemmas.Option.{slice_get_within}
+use Rattle.std.proofs.lemmas.Option.{slice_get_read, slice_get_within}
 use Rattle.edt_base.specs.declared.fault.Fault.{Fault}
 use Rattle.bind_load.specs.RecordData.{IncludeData, LevelData}
 use Rattle.bind_merge.specs.Cleanness.{the_one, clean_include, clean_record, is_clean}
@@ -390,3 +390,17 @@ resolves_long names reads h k old new (not_good e) = refl
 resolves_long names reads h k old new (before r e) = refl
 resolves_long names reads h k old new (too_high own o f) = refl
 resolves_long names reads h k old new (at_once own levels o none low merges) = length-set old k (Some (record { height = h; levels = levels }))
+
+-- ---- what resolving a file gave
+
+pub was_resolved : (names : NameData) (reads : List (Option Read)) (h k : ℕ) (old : List (Option ResolvedData)) (x : Option ResolvedData) → k < length old
+    → x ≡ get_or old k x → is_some x ≡ true → Resolves names reads h k old old
+was_resolved names reads h k old None l e s = absurd cc
+was_resolved names reads h k old (Some r) l e s = before r (ap (option_and_then (λ y. y)) (slice_get_read old (length old) k (Some r) refl l e))
+
+pub now_resolved : (names : NameData) (reads : List (Option Read)) (h k : ℕ) (old : List (Option ResolvedData)) (x : Option ResolvedData) (own : List OwnData)
+    (levels : Option (List LevelTable)) → k < length old → x ≡ get_or old k x → is_some x ≡ false → own_at reads k ≡ Some own → all_low names old h own ≡ true
+    → Merges names old own levels → Resolves names reads h k old (slice_set old k (Some (record { height = h; levels = levels })))
+now_resolved names reads h k old None own levels l e s o low m =
+    at_once own levels o (ap (option_and_then (λ y. y)) (slice_get_read old (length old) k None refl l e)) low m
+now_resolved names reads h k old (Some r) own levels l e s o low m = absurd cc

@@ -21,21 +21,23 @@ use Rattle.bind_merge.proofs.Typed.{rules_typed}
 levels-kept : (resolved : List (Option ResolvedData)) (ks : List ℕ) (k : ℕ) → is_bound (bindings_at resolved ks) k ≡ true
     → levels_of (bindings_at resolved ks) k ≡ levels_in (resolved_at resolved k)
 levels-kept resolved [] k e = absurd cc
-levels-kept resolved (j ∷ js) k e = at (nat_eq j k) refl e
+levels-kept resolved (j ∷ js) k e = at (λ h. levels-kept resolved js k h) (nat_eq j k) refl e
   where
-    at : (b : Bool) → nat_eq j k ≡ b → (b || is_bound (bindings_at resolved js) k) ≡ true
+    at : (is_bound (bindings_at resolved js) k ≡ true → levels_of (bindings_at resolved js) k ≡ levels_in (resolved_at resolved k))
+        → (b : Bool) → nat_eq j k ≡ b → (b || is_bound (bindings_at resolved js) k) ≡ true
         → (if b then levels_in (resolved_at resolved j) else levels_of (bindings_at resolved js) k) ≡ levels_in (resolved_at resolved k)
-    at true s h = ap (λ i. levels_in (resolved_at resolved i)) ((Decides-eqb j k).0 s)
-    at false s h = levels-kept resolved js k h
+    at below true s h = ap (λ i. levels_in (resolved_at resolved i)) ((Decides-eqb j k).0 s)
+    at below false s h = below h
 
 bound-sound : (files : List FileData) (resolved : List (Option ResolvedData)) (ks : List ℕ) (k : ℕ) → AreSound files (bindings_at resolved ks)
     → is_bound (bindings_at resolved ks) k ≡ true → IsSound files k (levels_in (resolved_at resolved k))
 bound-sound files resolved [] k s e = absurd cc
-bound-sound files resolved (j ∷ js) k s e = at (nat_eq j k) refl e
+bound-sound files resolved (j ∷ js) k s e = at (λ h. bound-sound files resolved js k s.1 h) (nat_eq j k) refl e
   where
-    at : (b : Bool) → nat_eq j k ≡ b → (b || is_bound (bindings_at resolved js) k) ≡ true → IsSound files k (levels_in (resolved_at resolved k))
-    at true t h = subst (λ i. IsSound files i (levels_in (resolved_at resolved i))) ((Decides-eqb j k).0 t) s.0
-    at false t h = bound-sound files resolved js k s.1 h
+    at : (is_bound (bindings_at resolved js) k ≡ true → IsSound files k (levels_in (resolved_at resolved k)))
+        → (b : Bool) → nat_eq j k ≡ b → (b || is_bound (bindings_at resolved js) k) ≡ true → IsSound files k (levels_in (resolved_at resolved k))
+    at below true t h = subst (λ i. IsSound files i (levels_in (resolved_at resolved i))) ((Decides-eqb j k).0 t) s.0
+    at below false t h = below h
 
 -- the library's fields against what contracts see of it
 module _ (fs : List File) (o : Option Loaded) (lib : LibData) (view : record { files = fs; bindings = bindings_in o } ≡ lib) (kept : IsKept fs o) where

@@ -126,7 +126,7 @@ module _ (files : List File) where
 -- what is found is one of the bindings
 pub found_bound : (files : List File) (q : List ℕ) (r : Option (List ℕ)) (bs : List BindingData) (k : ℕ) → find_in files q r bs ≡ Some k → is_bound bs k ≡ true
 found_bound files q r [] k e = absurd cc
-found_bound files q r (b ∷ bs) k e = at (is_for files (Some q) r b) e
+found_bound files q r (b ∷ bs) k e = at (is_for files (Some q) r b) (λ h. found_bound files q r bs k h) e
   where
     or-right : (a c : Bool) → c ≡ true → (a || c) ≡ true
     or-right true c h = refl
@@ -136,9 +136,9 @@ found_bound files q r (b ∷ bs) k e = at (is_for files (Some q) r b) e
     or-left true c h = refl
     or-left false c h = absurd cc
 
-    at : (t : Bool) → (if t then Some b.file else find_in files q r bs) ≡ Some k → is_bound (b ∷ bs) k ≡ true
-    at true h = let s : b.file ≡ k = cc in or-left _ _ ((Decides-eqb b.file k).1 s)
-    at false h = or-right _ _ (found_bound files q r bs k h)
+    at : (t : Bool) → (find_in files q r bs ≡ Some k → is_bound bs k ≡ true) → (if t then Some b.file else find_in files q r bs) ≡ Some k → is_bound (b ∷ bs) k ≡ true
+    at true below h = let s : b.file ≡ k = cc in or-left _ _ ((Decides-eqb b.file k).1 s)
+    at false below h = or-right _ _ (below h)
 
 -- ---- the bindings of the matching files in order
 
@@ -181,8 +181,8 @@ module _ (files : List File) (resolved : List (Option ResolvedData)) (ms : List 
       ap (twin_fault files) all-is
       ∙ (twin_found files the_before the_one m.compatible the_bus index of string refl (bindings_at resolved (numbers_of (drop (i + 1) ms))) taken none ∙ ap Some (sym e))
 
-  pub twin_end : {X : Type 0} (end : End) → OnFault {X = Unit {0}} (Err end) (λ f. is_some (in_index index m.compatible the_bus) ≡ true)
+  pub twin_end : (X : Type 0) (end : End) → OnFault {X = Unit {0}} (Err end) (λ f. is_some (in_index index m.compatible the_bus) ≡ true)
       → OnFault {X = Unit {0}} (Err end) (λ f. f ≡ file_fault rule.B12 (name_of (read_files files) m.file))
       → OnFault {X = X} (Err end) (λ f. twin_fault files (bindings_at resolved (numbers_of ms)) ≡ Some f)
-  twin_end (ending.Fault f) taken e = first_twin f taken e
-  twin_end (ending.Memory x) taken e = tt
+  twin_end X (ending.Fault f) taken e = first_twin f taken e
+  twin_end X (ending.Memory x) taken e = tt

@@ -55,8 +55,9 @@ fn add_match(
     ensures taken { OnFault result (λ f. is_some (in_index index.old.groups.entries found.now.compatible (bus_of (levels_in (resolved_at resolved.now found.now.file)))) ≡ true) }
     ensures fault { OnFault result (λ f. f ≡ file_fault rule.B12 (name_of (read_files files.now) found.now.file)) }
 {
-    let entry = &files[found.file.0 as usize];
-    let bus = bus_at(alloc, resolved, found.file)?;
+    let file = found.file;
+    let entry = &files[file.0 as usize];
+    let bus = bus_at(alloc, resolved, file)?;
     match index.find(&found.compatible, bus.as_ref()) {
         Some(_) => {
             let fault = file_fault(alloc, Rule::B12, &entry.0)?;
@@ -64,7 +65,7 @@ fn add_match(
         }
         None => {
             let compatible = found.compatible.copy(alloc)?;
-            index.add(alloc, compatible, bus, found.file)?;
+            index.add(alloc, compatible, bus, file)?;
             Ok(())
         }
     }

@@ -2,5 +2,5 @@ use Rattle.std.proofs.Common.{◌≡◌, length}
 use Rattle.bind_merge.specs.Inner.Heights.{AreNone}
 use Rattle.bind_merge.proofs.resolve.none_each.Given as goal
 
-abbrev pub invariant-loop-i : goal.invariant-loop-i
-invariant-loop-i g l = (length l.nones.items ≡ l._i) × AreNone l.nones.items
+abbrev pub invariant-loop : goal.invariant-loop
+invariant-loop g l = (length l.nones.items ≡ l._i) × AreNone l.nones.items

@@ -12,7 +12,7 @@ add_match-requires c =
 pub returns-in-Err-clause-fault : goal.returns-in-Err-clause-fault
 returns-in-Err-clause-fault c =
     twin_end c.args.files.now c.args.resolved.now c.args.matches.now c.loop-found.found-index c.found-item.result c.loop-found-test.true (sym c.found-item.is) c.requires c.loop-found.index.groups.entries c.add_match.new.index.groups.entries
-    c.loop-found.invariant.0 c.loop-found.invariant.1 c.in-Err.end c.in-Err.ensures.taken c.in-Err.ensures.fault
+    c.loop-found.invariant.0 c.loop-found.invariant.1 _ c.in-Err.end c.in-Err.ensures.taken c.in-Err.ensures.fault
 
 pub loop-found-preserved : goal.loop-found-preserved
 loop-found-preserved c =
