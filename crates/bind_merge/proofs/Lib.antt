@@ -23,6 +23,7 @@ pub mod Matched
 pub mod MergedRecord
 pub mod NamedFiles
 pub mod Places
+pub mod Reached
 pub mod ReadAnswers
 pub mod Sorting
 pub mod Spreading

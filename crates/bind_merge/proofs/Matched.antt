@@ -79,7 +79,7 @@ matching-low compats k n j (f ∷ fs) e h = at (λ g. matching-low compats (k + 
     at below true g = here below (nat_eq j k) refl g
     at below false g = below g
 
-all-snoc : (test : ℕ → Bool) (ks : List ℕ) (k : ℕ) → list_all test ks ≡ true → test k ≡ true → list_all test (ks ++ k ∷ []) ≡ true
+pub all-snoc : (test : ℕ → Bool) (ks : List ℕ) (k : ℕ) → list_all test ks ≡ true → test k ≡ true → list_all test (ks ++ k ∷ []) ≡ true
 all-snoc test [] k a b = ap (λ x. x && true) b
 all-snoc test (j ∷ js) k a b = at (test j) (λ g. all-snoc test js k g b) a
   where

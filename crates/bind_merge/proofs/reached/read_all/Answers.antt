@@ -1,12 +1,14 @@
-use Rattle.std.proofs.Common.{rules, ◌≡◌, ◌<◌, ◌++◌, [], IfOk, OnOk, length, map, nat_lt, true, ℕ, ◌+◌, ◌-◌, ◌*◌, ◌≤◌, ◌/◌, ◌%◌, Bool, false, nat_eq, List, ◌∷◌, slice_index_or, slice_set, bit_and, bit_or, Fits, w8, w32, w64, Bor, MutBor}
-use Rattle.std.specs.List.{flat_map, list_all}
-use Rattle.bind_load.specs.RecordSeen.{include_of}
+use Rattle.std.proofs.Common.{sym}
 use Rattle.bind_merge.specs.Listing.{read_files}
-use Rattle.bind_merge.specs.Inner.Reading.{is_read_at, own_at}
-use Rattle.bind_merge.specs.Inner.Resolving.{AreNames}
-use Rattle.bind_merge.specs.Inner.Spreading.{HasSpread, Spreads, included_at, included_by, included_in, is_among}
+use Rattle.bind_merge.proofs.Reached.{all_next}
+use Rattle.bind_merge.proofs.Spreading.{spreads_on}
 use Rattle.bind_merge.proofs.reached.read_all.Goals as goal
 
--- src/reached.rt:97:5
 pub loop-file-preserved : goal.loop-file-preserved
-loop-file-preserved c = ?
+loop-file-preserved c = (
+  spreads_on (read_files c.args.files.now) c.args.reads.now.items c.loop-file.reads.items c.read_one.new.reads.items c.args.left.now.items c.loop-file.left.items
+      c.read_one.new.left.items c.loop-file.invariant.0 c.in_ok-read_one.ensures.spreads,
+  all_next (read_files c.args.files.now) c.loop-file.reads.items c.read_one.new.reads.items c.loop-file.left.items c.read_one.new.left.items c.args.included.now
+      c.loop-file.file-index c.file-item.result c.loop-file-test.true (sym c.file-item.is) c.in_ok-read_one.ensures.spreads c.loop-file.invariant.1
+      c.in_ok-read_one.ensures.read,
+)

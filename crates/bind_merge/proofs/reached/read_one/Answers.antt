@@ -1,16 +1,14 @@
-use Rattle.std.proofs.Common.{rules, ◌≡◌, ◌<◌, ◌++◌, [], IfOk, OnOk, length, map, nat_lt, true, ℕ, ◌+◌, ◌-◌, ◌*◌, ◌≤◌, ◌/◌, ◌%◌, Bool, false, nat_eq, List, ◌∷◌, slice_index_or, slice_set, bit_and, bit_or, Fits, w8, w32, w64, Bor, MutBor}
-use Rattle.std.specs.List.{flat_map, list_all}
-use Rattle.bind_load.specs.RecordSeen.{include_of}
-use Rattle.bind_merge.specs.Listing.{read_files}
-use Rattle.bind_merge.specs.Inner.Reading.{is_read_at, own_at}
-use Rattle.bind_merge.specs.Inner.Resolving.{AreNames}
-use Rattle.bind_merge.specs.Inner.Spreading.{HasSpread, Spreads, included_at, included_by, included_in, is_among}
+use Rattle.std.proofs.Common.{◌∙◌, sym}
+use Rattle.bind_merge.proofs.Reached.{reads_now, spreads_one}
 use Rattle.bind_merge.proofs.reached.read_one.Goals as goal
 
--- src/reached.rt:103:1
 pub returns-clause-spreads : goal.returns-clause-spreads
-returns-clause-spreads c = ?
+returns-clause-spreads c =
+    spreads_one c.args.files.now c.args.reads.now.items c.args.left.now.items c.args.file c.file.inside.0 c.index.result.now c.index-files-at.result c.in_ok-read.read
+    c.file.view_is c.requires.listed c.requires.len c.index.ensures (sym c.is_some.ensures ∙ c.if-is_some.false) c.index-files-at.is c.in_ok-read.ensures
+    c.push.new.self.items c.in_ok-push.ensures.items
 
--- src/reached.rt:103:1
 pub returns-clause-read : goal.returns-clause-read
-returns-clause-read c = ?
+returns-clause-read c =
+    reads_now c.args.files.now c.args.reads.now.items c.args.left.now.items c.args.file c.file.inside.0 c.index.result.now c.index-files-at.result c.in_ok-read.read
+    c.file.view_is c.requires.listed c.requires.len c.index.ensures (sym c.is_some.ensures ∙ c.if-is_some.false) c.index-files-at.is c.in_ok-read.ensures

@@ -3,4 +3,4 @@ use Rattle.bind_merge.specs.Inner.Heights.{AreNone}
 use Rattle.bind_merge.proofs.resolve.none_each.Given as goal
 
 abbrev pub invariant-loop : goal.invariant-loop
-invariant-loop g l = (length l.nones.items ≡ l._i) × AreNone l.nones.items
+invariant-loop g l = (length l.nones.items ≡ l.counter) × AreNone l.nones.items

@@ -1,4 +1,5 @@
 use Rattle.std.proofs.Common.{refl, sym}
+use Rattle.bind_merge.specs.declared.index.Index.{Index}
 use Rattle.bind_merge.proofs.Gone.{got}
 use Rattle.bind_merge.proofs.Matched.{string_at}
 use Rattle.bind_merge.proofs.Twinned.{indexed_more, twin_end}
@@ -12,7 +13,7 @@ add_match-requires c =
 pub returns-in-Err-clause-fault : goal.returns-in-Err-clause-fault
 returns-in-Err-clause-fault c =
     twin_end c.args.files.now c.args.resolved.now c.args.matches.now c.loop-found.found-index c.found-item.result c.loop-found-test.true (sym c.found-item.is) c.requires c.loop-found.index.groups.entries c.add_match.new.index.groups.entries
-    c.loop-found.invariant.0 c.loop-found.invariant.1 _ c.in-Err.end c.in-Err.ensures.taken c.in-Err.ensures.fault
+    c.loop-found.invariant.0 c.loop-found.invariant.1 Index c.in-Err.end c.in-Err.ensures.taken c.in-Err.ensures.fault
 
 pub loop-found-preserved : goal.loop-found-preserved
 loop-found-preserved c =
