@@ -23,8 +23,8 @@ pub mod Matched
 pub mod MergedRecord
 pub mod NamedFiles
 pub mod Places
-pub mod Reached
 pub mod ReadAnswers
+pub mod ReadingOn
 pub mod Sorting
 pub mod Spreading
 pub mod Stringing

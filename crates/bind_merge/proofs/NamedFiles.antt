@@ -64,7 +64,7 @@ names-more names more fs f n e h u name = u name ∙ at (bytes_eq (base_name f.n
 pub none-named : AreNames [] []
 none-named base = refl
 
-length-data : (fs : List File) → length (read_files fs) ≡ length fs
+pub length-data : (fs : List File) → length (read_files fs) ≡ length fs
 length-data [] = refl
 length-data (f ∷ fs) = ap suc (length-data fs)
 

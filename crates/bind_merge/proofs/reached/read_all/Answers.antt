@@ -1,6 +1,6 @@
 use Rattle.std.proofs.Common.{sym}
 use Rattle.bind_merge.specs.Listing.{read_files}
-use Rattle.bind_merge.proofs.Reached.{all_next}
+use Rattle.bind_merge.proofs.ReadingOn.{all_next}
 use Rattle.bind_merge.proofs.Spreading.{spreads_on}
 use Rattle.bind_merge.proofs.reached.read_all.Goals as goal
 

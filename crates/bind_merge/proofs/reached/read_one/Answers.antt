@@ -1,5 +1,5 @@
 use Rattle.std.proofs.Common.{◌∙◌, sym}
-use Rattle.bind_merge.proofs.Reached.{reads_now, spreads_one}
+use Rattle.bind_merge.proofs.ReadingOn.{reads_now, spreads_one}
 use Rattle.bind_merge.proofs.reached.read_one.Goals as goal
 
 pub returns-clause-spreads : goal.returns-clause-spreads
