@@ -18,8 +18,6 @@ mod same;
 mod shared;
 mod strings;
 mod table;
-#[cfg(test)]
-mod tests;
 mod view;
 mod walk;
 
