@@ -18,6 +18,7 @@ pub mod Looked
 pub mod MergedRecord
 pub mod NamedFiles
 pub mod ReadAnswers
+pub mod Showing
 pub mod Sorting
 pub mod Spreading
 pub mod Stringing

@@ -21,6 +21,6 @@ mod table;
 mod view;
 mod walk;
 
-pub use laws::{merges_once, met_again, views_tell, walks_once};
+pub use laws::{merges_once, met_again, views_show, views_tell, walks_once};
 pub use library::Library;
 pub use view::{PropView, View};
