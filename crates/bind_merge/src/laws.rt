@@ -38,7 +38,6 @@ pub fn views_tell()
 /// What the views of a file's merged binding show, at each child-binding step, is what the file holds
 /// there along its includes, filters and child-bindings: the names of the properties, their settings,
 /// whether one is required, the cells of a space, the buses and the bus, and whether there is a child.
-#[tactic(auto, using(crate::proofs::Showing::views_show))]
 pub fn views_show()
     ensures { ViewsShow }
 {}
