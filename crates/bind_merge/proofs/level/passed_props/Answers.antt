@@ -23,6 +23,6 @@ returns c =
     c.as_slice.ensures.value ∙ c.in_ok-allowed.ensures in
     let b : c.as_slice-2.result.now ≡ filter (λ (e : EntryData). is_kept_where false (option_map (λ n. n.items) (out-Filter g).block) e.name) c.as_slice.result.now =
     c.as_slice-2.ensures.value ∙ c.in_ok-unblocked.ensures in
-    c.in_ok-all.ensures ∙ ap (map inherited) (b ∙ ap (filter (λ (e : EntryData). is_kept_where false (option_map (λ n. n.items) (out-Filter g).block) e.name)) a
+    c.in_ok-all-2.ensures ∙ ap (map inherited) (b ∙ ap (filter (λ (e : EntryData). is_kept_where false (option_map (λ n. n.items) (out-Filter g).block) e.name)) a
     ∙ kept-twice _ _ (record { allow = option_map (λ n. n.items) (out-Filter g).allow; block = option_map (λ n. n.items) (out-Filter g).block }) c.args.props.now refl refl)
     ∙ ap (λ o. passed_props o c.args.props.now) (sym (f ∙ t))
