@@ -1,5 +1,5 @@
 -- What lists of names keep of entries.
-use Rattle.std.proofs.Common.{◌≡◌, ◌&&◌, ◌∙◌, ◌+◌, ◌<◌, ◌++◌, sym, ap, refl, subst, ℕ, Bool, true, false, not, List, [], ◌∷◌, Option, Some, None, map, cond, drop, get_or, length, append_assoc}
+use Rattle.std.proofs.Common.{◌≡◌, ◌&&◌, ◌∙◌, ◌+◌, ◌<◌, ◌++◌, sym, ap, refl, ℕ, Bool, true, false, not, List, [], ◌∷◌, Option, Some, None, map, cond, drop, get_or, length, append_assoc}
 use Rattle.std.specs.List.{filter, list_any}
 use Rattle.std.specs.Str.{bytes_eq}
 use Rattle.std.proofs.lemmas.List.{drop_more}

@@ -1,19 +1,19 @@
 -- What the views of a merged binding show is what the file holds.
-use Rattle.std.proofs.Common.{◌≡◌, ◌↔◌, ◌∙◌, ◌+◌, ◌<◌, sym, ap, refl, subst, inl, inr, ℕ, zero, suc, Bool, true, false, List, [], ◌∷◌, Option, Some, None, IsTrue, drop, map, length, get_or, arith}
+use Rattle.std.proofs.Common.{◌≡◌, ◌+◌, ◌<◌, sym, ap, refl, subst, inl, inr, ℕ, zero, suc, Bool, true, false, List, [], ◌∷◌, Option, Some, None, IsTrue, drop, map, length, get_or, arith}
 use Rattle.std.specs.Prelude.{IsSome}
 use Rattle.std.specs.List.{Contains}
 use Rattle.std.specs.Option.{option_map, option_and_then}
 use Rattle.bind_merge.specs.Checks.{is_yes}
-use Rattle.bind_merge.specs.Facts.{Setting, Fact, Gives, IsGiven, named, required, cells, there, buses, on_bus, of_space, of_prop}
+use Rattle.bind_merge.specs.Facts.{Setting, Fact, IsGiven, named, required, cells, there, buses, on_bus, of_space, of_prop}
 use Rattle.bind_merge.specs.Files.{FileData}
 use Rattle.bind_merge.specs.Holdings.{Holds}
 use Rattle.bind_merge.specs.Levels.{EntryData, LevelTable}
 use Rattle.bind_merge.specs.Looking.{entry_named}
 use Rattle.bind_merge.specs.Merging.{IsMerged}
 use Rattle.bind_merge.specs.Ordered.{IsInOrder, SaysAt}
-use Rattle.bind_merge.specs.Showing.{Shows, IsChildOf, ViewsShow}
+use Rattle.bind_merge.specs.Showing.{Shows, ViewsShow}
 use Rattle.bind_merge.specs.Telling.{HasSetting, Tells}
-use Rattle.bind_merge.specs.ViewData.{props_in, cells_in, child_in, names_in, prop_in, spaces_in}
+use Rattle.bind_merge.specs.ViewData.{props_in, child_in, spaces_in}
 use Rattle.bind_merge.proofs.Telling.{views_tell}
 
 -- ---- the levels from one on
@@ -130,9 +130,9 @@ module _ (files : List FileData) (k : ℕ) (levels : List LevelTable) (m : IsMer
     );
     is_required = λ p e is. (
       λ y. holds (of_prop p (required true)) ((tells.prop p (required true)).1
-      (subst (λ o. HasSetting o (required true)) (sym is) (yes-gives e.required y))),
+          (subst (λ o. HasSetting o (required true)) (sym is) (yes-gives e.required y))),
       λ h. gives-yes e.required
-      (subst (λ o. HasSetting o (required true)) is ((tells.prop p (required true)).0 (held (of_prop p (required true)) h))),
+          (subst (λ o. HasSetting o (required true)) is ((tells.prop p (required true)).0 (held (of_prop p (required true)) h))),
     );
     cells_are = λ s v. (
       λ c. holds (of_space s (cells v)) ((tells.space s (cells v)).1 (cells-found (entry_named s (spaces_in (drop n levels))) v c)),

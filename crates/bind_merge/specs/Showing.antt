@@ -1,15 +1,14 @@
 -- What the views of a merged binding show is what the file holds.
-use Rattle.std.specs.Prelude.{◌≡◌, ◌↔◌, ◌+◌, ℕ, true, List, Option, Some, IsSome, IsTrue, drop}
+use Rattle.std.specs.Prelude.{◌≡◌, ◌↔◌, ◌+◌, ℕ, true, List, Some, IsSome, IsTrue, drop}
 use Rattle.std.specs.List.{Contains}
 use Rattle.bind_merge.specs.Checks.{is_yes}
-use Rattle.bind_merge.specs.Facts.{Setting, Fact, named, required, cells, there, buses, on_bus, of_space, of_prop}
+use Rattle.bind_merge.specs.Facts.{Setting, named, required, cells, there, buses, on_bus, of_space, of_prop}
 use Rattle.bind_merge.specs.Files.{FileData}
 use Rattle.bind_merge.specs.Holdings.{Holds}
 use Rattle.bind_merge.specs.Levels.{EntryData, LevelTable}
-use Rattle.bind_merge.specs.Looking.{entry_named}
 use Rattle.bind_merge.specs.Merging.{IsMerged}
 use Rattle.bind_merge.specs.Telling.{HasSetting}
-use Rattle.bind_merge.specs.ViewData.{buses_in, bus_in, cells_in, child_in, names_in, prop_in, spaces_in}
+use Rattle.bind_merge.specs.ViewData.{buses_in, bus_in, cells_in, child_in, names_in, prop_in}
 
 -- The view that is n child-binding steps down in the merged binding of file k. It names the properties
 -- that the file holds there, and a property has the settings that the file holds; it is required
