@@ -362,7 +362,7 @@ ends_height names reads h g n old e s a files known read closed =
         let v : k < length reads = within reads k w in
         subst (λ i. IsLow old k i) u (b.here k (omega (arith, v, e)) w (subst (λ i. is_clean files i k ≡ true) (sym u) c))
 
-none-at : {X : Type 0} (xs : List (Option X)) (k : ℕ) → AreNone xs → option_and_then (λ x. x) (slice_get xs k) ≡ None
+pub none-at : {X : Type 0} (xs : List (Option X)) (k : ℕ) → AreNone xs → option_and_then (λ x. x) (slice_get xs k) ≡ None
 none-at [] k h = refl
 none-at (x ∷ xs) zero h = h.0
 none-at (x ∷ xs) (suc k) h = none-at xs k h.1

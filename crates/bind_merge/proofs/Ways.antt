@@ -364,7 +364,7 @@ begins-at files reads b d e n r = record {
   read = r;
 }
 
-folded : (files : List FileData) (b : ℕ) → binding_walk files b ≡ walk_in 16 files [] b
+pub folded : (files : List FileData) (b : ℕ) → binding_walk files b ≡ walk_in 16 files [] b
 unfolding binding_walk walk_in
 folded files b = refl
 

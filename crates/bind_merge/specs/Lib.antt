@@ -17,6 +17,7 @@ pub mod LibraryData
 pub mod Listing
 pub mod Loading
 pub mod Looking
+pub mod Matching
 pub mod Merging
 pub mod Options
 pub mod Ordered

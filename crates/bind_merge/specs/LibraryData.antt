@@ -1,14 +1,11 @@
 -- A library as contracts see it.
-use Rattle.std.specs.Prelude.{◌&&◌, ℕ, Bool, true, false, List, Option, Some, None}
-use Rattle.std.specs.Str.{bytes_eq}
+use Rattle.std.specs.Prelude.{ℕ, List, [], ◌∷◌, if◌then◌else◌, nat_eq}
 use Rattle.bind_merge.specs.Listing.{File}
 use Rattle.bind_merge.specs.Levels.{LevelTable}
 
--- a matching binding: its file, its compatible string, the bus that it is for, and the merged binding
+-- a matching binding: its file, and the merged binding, level by level
 pub record BindingData : Type 0 where
   pub file : ℕ
-  pub compatible : List ℕ
-  pub bus : Option (List ℕ)
   pub levels : List LevelTable
 
 -- the listed files, and the matching bindings of the last load, in list order
@@ -16,11 +13,7 @@ pub record LibData : Type 0 where
   pub files : List File
   pub bindings : List BindingData
 
-abbrev pub same_bus : Option (List ℕ) → Option (List ℕ) → Bool
-same_bus None None = true
-same_bus (Some a) (Some b) = bytes_eq a b
-same_bus _ _ = false
-
--- a binding is for this compatible string on this bus
-abbrev pub is_for : List ℕ → Option (List ℕ) → BindingData → Bool
-is_for compat bus b = bytes_eq b.compatible compat && same_bus b.bus bus
+-- the merged binding of a file
+abbrev pub levels_of : List BindingData → ℕ → List LevelTable
+levels_of [] k = []
+levels_of (b ∷ bs) k = if nat_eq b.file k then b.levels else levels_of bs k

@@ -4,10 +4,12 @@
 mod checks;
 mod entries;
 mod entry;
+mod index;
 mod laws;
 mod level;
 mod library;
 mod lookup;
+mod matching;
 mod merging;
 mod names;
 mod own;
@@ -16,8 +18,10 @@ mod reading;
 mod resolve;
 mod same;
 mod shared;
+mod sound;
 mod strings;
 mod table;
+mod twins;
 mod view;
 mod walk;
 

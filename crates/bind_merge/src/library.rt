@@ -1,244 +1,143 @@
 //! The library of binding files.
 
-use crate::checks::merged_rule;
+ghost use Rattle.std.specs.Prelude.{◌≡◌, ◌<◌, [], IfOk, IfSome, OnErr, OnOk, length, true};
+ghost use Rattle.std.specs.Option.{option_map};
+ghost use Rattle.bind_merge.specs.Listing.{read_files};
+ghost use Rattle.bind_merge.specs.Loading.{IsFirstFault, IsLoaded, OnFault};
+ghost use Rattle.bind_merge.specs.Matching.{find_in, is_bound};
+ghost use Rattle.bind_merge.specs.Merging.{IsMerged};
+ghost use Rattle.bind_merge.specs.LibraryData.{levels_of};
+ghost use Rattle.bind_merge.specs.Inner.Indexing.{IsIndexOf};
+ghost use Rattle.bind_merge.specs.Inner.Steps.{bindings_at};
+
+use crate::index::Index;
+use crate::matching::{matching, numbers_of};
 use crate::merging::Resolved;
 use crate::names::Names;
 use crate::reached::read_reached;
-use crate::reading::{Read, compatible_in, record_of};
 use crate::resolve::{none_each, resolve};
-use crate::strings::Strings;
+use crate::sound::{levels_at, test_all};
+use crate::twins::index_of;
 use crate::view::View;
-use crate::walk::{file_fault, first_fault};
-use edt_base::{Bytes, End, FileNo, Rule, Text};
+use edt_base::{Bytes, End, FileNo, Text};
 use std::alloc::{AllocError, Global};
-use std::cmp::Ordering;
-use yaml_profile::read;
+use std::marker::Model;
 
-/// The listed binding files, and what was loaded of them.
+/// The listed binding files, and what was loaded of them. In clauses it is the files and the matching
+/// bindings of the last load, each with its merged levels.
 #[derive(Debug, Drop)]
 pub struct Library {
     files: Vec<(Text, Bytes)>,
     loaded: Option<Loaded>,
 }
 
-/// The matching bindings of the last load, by compatible string and bus.
+impl Model for Library {
+    ghost use Rattle.std.specs.Prelude.{◌<◌, length};
+    ghost use Rattle.std.specs.Coded.{codes};
+    ghost use Rattle.bind_merge.specs.Codes.{coded_value};
+    ghost use Rattle.bind_merge.specs.LibraryData.{LibData};
+
+    ghost Value = { LibData };
+
+    ghost coded = { Prim.hlevel (codes, coded_value) };
+
+    ghost use Rattle.bind_merge.specs.Inner.Loaded.{IsKept, bindings_in};
+
+    ghost view = { λ l. record { files = l.files.items; bindings = bindings_in l.loaded } };
+
+    ghost invariant = { λ l. (length l.files.items < 4294967296) × IsKept l.files.items l.loaded };
+}
+
+/// The matching bindings of a load, and what was resolved of each file.
 #[derive(Debug, Drop)]
 struct Loaded {
-    bindings: Vec<Binding>,
+    /// The files of the matching bindings, in list order.
+    bindings: Vec<FileNo>,
     resolved: Vec<Option<Resolved>>,
-}
-
-/// A matching binding.
-#[derive(Debug, Drop)]
-struct Binding {
-    compatible: Text,
-    bus: Option<Text>,
-    file: FileNo,
-}
-
-// A matching binding's file, with its compatible string.
-#[derive(Debug, Drop)]
-struct Match {
-    compatible: Text,
-    file: FileNo,
+    index: Index,
 }
 
 impl Library {
     /// A library of the listed files with their bytes, of which nothing is loaded. Takes no memory.
-    pub fn new(files: Vec<(Text, Bytes)>) -> Library {
+    pub fn new(files: Vec<(Text, Bytes)>) -> Library
+        requires { length files.items < 4294967296 }
+        ensures { result ≡ record { files = files.items; bindings = [] } }
+    {
         Library {
             files,
             loaded: None,
         }
     }
 
-    /// Loads the bindings of these compatible strings, with what they include.
+    /// Loads the bindings of these compatible strings, with what they include (Zephyr 3.7,
+    /// "Devicetree bindings syntax").
     ///
     /// # Errors
     ///
-    /// `End::Fault` with the first broken rule, `End::Memory` where memory was wanted. After both
-    /// nothing is loaded.
-    pub fn load(&mut self, alloc: Global, compats: &Vec<Text>) -> Result<(), End> {
+    /// `End::Fault` with the first broken rule, and only where one is broken; `End::Memory` where
+    /// memory was wanted. After both nothing is loaded.
+    pub fn load(&mut self, alloc: Global, compats: &Vec<Text>) -> Result<(), End>
+        ensures files { self.new.files ≡ self.old.files }
+        ensures loaded { OnOk result (IsLoaded self.old.files compats.now.items self.new.bindings) }
+        ensures fault { OnFault result (IsFirstFault self.old.files compats.now.items) }
+        ensures refused { OnErr result (self.new.bindings ≡ []) }
+    {
         self.loaded = None;
-        self.loaded = Some(load_files(alloc, self.files.as_slice(), compats.as_slice())?);
+        let loaded = load_files(alloc, self.files.as_slice(), compats.as_slice())?;
+        self.loaded = Some(loaded);
         Ok(())
     }
 
     /// The file of the matching binding for a compatible string on a bus, or on none; None exactly
     /// where there is none. Takes no memory.
-    pub fn find(&self, compat: &Text, bus: Option<&Text>) -> Option<FileNo> {
-        let bindings = self.loaded.as_ref()?.bindings.as_slice();
-        match bindings.binary_search_by(|binding| order(binding, compat, bus)) {
-            Ok(at) => Some(bindings[at].file),
-            Err(_) => None,
+    pub fn find(&self, compat: &Text, bus: Option<&Text>) -> Option<FileNo>
+        ensures found { result ≡ find_in self.now.files compat.now (option_map (λ t. t.now) bus.entry) self.now.bindings }
+        ensures bound { IfSome result (λ file. is_bound self.now.bindings file ≡ true) }
+    {
+        match &self.loaded {
+            Some(loaded) => loaded.index.find(compat, bus),
+            None => None,
         }
     }
 
     /// The merged binding of a file that `find` gave since the last load. Takes no memory.
-    pub fn view<'a>(&'a self, _alloc: Global, file: FileNo) -> Result<View<'a>, AllocError> {
+    pub fn view<'a>(&'a self, _alloc: Global, file: FileNo) -> Result<View<'a>, AllocError>
+        requires { is_bound self.now.bindings file ≡ true }
+        ensures levels { IfOk result (λ v. v ≡ levels_of self.now.bindings file) }
+        ensures merged { IfOk result (IsMerged (read_files self.now.files) file) }
+    {
         match &self.loaded {
-            Some(loaded) => match &loaded.resolved[file.0 as usize] {
-                Some(
-                    Resolved {
-                        levels: Some(levels),
-                        ..
-                    },
-                ) => Ok(View::of(levels.as_slice())),
-                _ => Ok(View::of(&[])),
-            },
+            Some(loaded) => Ok(View::of(levels_at(loaded.resolved.as_slice(), file))),
             None => Ok(View::of(&[])),
         }
     }
 }
 
-// The order of a binding against a compatible string and a bus.
-fn order(binding: &Binding, compat: &Text, bus: Option<&Text>) -> Ordering {
-    match binding.compatible.cmp(compat) {
-        Ordering::Equal => bus_order(&binding.bus, bus),
-        unequal => unequal,
-    }
-}
-
-fn bus_order(a: &Option<Text>, b: Option<&Text>) -> Ordering {
-    match (a, b) {
-        (None, None) => Ordering::Equal,
-        (None, Some(_)) => Ordering::Less,
-        (Some(_), None) => Ordering::Greater,
-        (Some(a), Some(b)) => a.cmp(b),
-    }
-}
-
-// The three steps.
-fn load_files(alloc: Global, files: &[(Text, Bytes)], compats: &[Text]) -> Result<Loaded, End> {
+// The three steps of loading.
+fn load_files(alloc: Global, files: &[(Text, Bytes)], compats: &[Text]) -> Result<Loaded, End>
+    requires { length files.now < 4294967296 }
+    ensures loaded { IfOk result (λ l. IsLoaded files.now compats.now (bindings_at l.resolved.items l.bindings.items)) }
+    ensures index { IfOk result (λ l. IsIndexOf files.now (bindings_at l.resolved.items l.bindings.items) l.index.groups.entries) }
+    ensures fault { OnFault result (IsFirstFault files.now compats.now) }
+{
     let mut reads = none_each(alloc, files.len())?;
     let matches = matching(alloc, files, compats, &mut reads)?;
-    let mut numbers = Vec::with_capacity(alloc, matches.len())?;
-    for found in matches.iter() {
-        numbers.push(found.file)?;
-    }
+    let bindings = numbers_of(alloc, matches.as_slice())?;
     let names = Names::of(alloc, files)?;
-    read_reached(alloc, files, &names, numbers.as_slice(), &mut reads)?;
+    read_reached(alloc, files, &names, bindings.as_slice(), &mut reads)?;
     let resolved = resolve(alloc, &names, reads.as_slice())?;
-    for file in numbers.iter() {
-        test(
-            alloc,
-            files,
-            &names,
-            reads.as_slice(),
-            resolved.as_slice(),
-            *file,
-        )?;
-    }
-    let bindings = bindings(alloc, files, matches, resolved.as_slice())?;
-    Ok(Loaded { bindings, resolved })
-}
-
-// Step one: the matching bindings in list order, or the first fault of the files that are read.
-fn matching(
-    alloc: Global,
-    files: &[(Text, Bytes)],
-    compats: &[Text],
-    reads: &mut Vec<Option<Read>>,
-) -> Result<Vec<Match>, End> {
-    let strings = Strings::of(alloc, compats)?;
-    let mut matches = Vec::new(alloc);
-    for at in 0..files.len() {
-        let (name, bytes) = &files[at];
-        if strings.stand_in(bytes.as_slice()) {
-            let value = read(alloc, name, bytes.as_slice())?;
-            if let Some(compatible) = compatible_in(&value) {
-                if strings.has(compatible) {
-                    matches.push(Match {
-                        compatible: compatible.copy(alloc)?,
-                        file: FileNo(at as u32),
-                    })?;
-                    reads[at] = Some(record_of(alloc, name, &value)?);
-                }
-            }
-        }
-    }
-    Ok(matches)
-}
-
-// Step two at one binding: its walk, B11, and the rules of the merged binding.
-fn test(
-    alloc: Global,
-    files: &[(Text, Bytes)],
-    names: &Names,
-    reads: &[Option<Read>],
-    resolved: &[Option<Resolved>],
-    file: FileNo,
-) -> Result<(), End> {
-    let name = &files[file.0 as usize].0;
-    let Some(found) = &resolved[file.0 as usize] else {
-        return match first_fault(alloc, files, names, reads, resolved, file)? {
-            Some(fault) => Err(End::Fault(fault)),
-            None => Ok(()),
-        };
-    };
-    let Some(levels) = &found.levels else {
-        return Err(End::Fault(file_fault(alloc, Rule::B11, name)?));
-    };
-    match merged_rule(levels.as_slice()) {
-        Some(rule) => Err(End::Fault(file_fault(alloc, rule, name)?)),
-        None => Ok(()),
-    }
-}
-
-// The bus that a file's merged binding is for.
-fn bus_of(alloc: Global, resolved: &Option<Resolved>) -> Result<Option<Text>, AllocError> {
-    let Some(found) = resolved else {
-        return Ok(None);
-    };
-    let Some(levels) = &found.levels else {
-        return Ok(None);
-    };
-    let Some(top) = levels.first() else {
-        return Ok(None);
-    };
-    match &top.on_bus {
-        Some(bus) => Ok(Some(bus.get().copy(alloc)?)),
-        None => Ok(None),
-    }
-}
-
-// Step three: the bindings by string and bus, or the first for which an earlier one is for the same.
-fn bindings(
-    alloc: Global,
-    files: &[(Text, Bytes)],
-    matches: Vec<Match>,
-    resolved: &[Option<Resolved>],
-) -> Result<Vec<Binding>, End> {
-    let mut bindings = Vec::with_capacity(alloc, matches.len())?;
-    for Match { compatible, file } in matches {
-        let bus = bus_of(alloc, &resolved[file.0 as usize])?;
-        bindings.push(Binding {
-            compatible,
-            bus,
-            file,
-        })?;
-    }
-    bindings.sort_by(|a, b| order(a, &b.compatible, b.bus.as_ref()))?;
-    match first_twin(bindings.as_slice()) {
-        Some(file) => Err(End::Fault(file_fault(alloc, Rule::B12, &files[file.0 as usize].0)?)),
-        None => Ok(bindings),
-    }
-}
-
-// The first file, in list order, whose binding is for the same string and bus as an earlier one.
-fn first_twin(bindings: &[Binding]) -> Option<FileNo> {
-    let mut first: Option<FileNo> = None;
-    let mut before: Option<&Binding> = None;
-    for binding in bindings {
-        if let Some(earlier) = before {
-            if order(earlier, &binding.compatible, binding.bus.as_ref()) == Ordering::Equal {
-                first = match first {
-                    Some(file) if file <= binding.file => Some(file),
-                    _ => Some(binding.file),
-                };
-            }
-        }
-        before = Some(binding);
-    }
-    first
+    test_all(
+        alloc,
+        files,
+        &names,
+        reads.as_slice(),
+        resolved.as_slice(),
+        bindings.as_slice(),
+    )?;
+    let index = index_of(alloc, files, matches.as_slice(), resolved.as_slice())?;
+    Ok(Loaded {
+        bindings,
+        resolved,
+        index,
+    })
 }

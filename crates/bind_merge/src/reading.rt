@@ -8,7 +8,7 @@ ghost use Rattle.yaml_profile.specs.Reading.{reading};
 ghost use Rattle.bind_load.specs.RecordOf.{text_in};
 ghost use Rattle.bind_load.specs.Rules.{broken_rule};
 ghost use Rattle.bind_merge.specs.Listing.{record_from, record_or};
-ghost use Rattle.bind_merge.specs.Loading.{compatible_in};
+ghost use Rattle.bind_merge.specs.Matching.{compatible_in};
 ghost use Rattle.bind_merge.specs.Inner.Reading.{IsReadOf};
 
 use crate::own::{OwnLevel, own_levels};

@@ -15,7 +15,11 @@ pub fn answer(alloc: Global, row: &Row) -> Result<Option<String>, AllocError> {
     let Some(listing) = row.text("library") else {
         return Ok(None);
     };
-    let mut library = Library::new(files_of(alloc, listing)?);
+    let files = files_of(alloc, listing)?;
+    if files.len() > 100000 {
+        return Ok(None);
+    }
+    let mut library = Library::new(files);
     let compats = lines_of(alloc, row.text("load").unwrap_or(""))?;
     let mut out = String::new(alloc);
     match library.load(alloc, &compats) {
