@@ -13,7 +13,7 @@ use Rattle.edt_base.specs.declared.fault.Fault.{Fault}
 use Rattle.yaml_profile.specs.Reading.{reading}
 use Rattle.bind_merge.specs.Files.{FileData, record_at}
 use Rattle.bind_merge.specs.Listing.{File, byte_fault, file_data, read_files, record_from}
-use Rattle.bind_merge.specs.Loading.{is_matching, is_read, matching, matching_from, text_fault, text_fault_in}
+use Rattle.bind_merge.specs.Loading.{OnFault, is_matching, is_read, matching, matching_from, text_fault, text_fault_in}
 use Rattle.bind_merge.specs.Matching.{compatible_at, compatible_in}
 use Rattle.bind_merge.specs.Options.{or_else, first_some}
 use Rattle.bind_merge.specs.declared.matching.Found.{Found}
@@ -31,7 +31,7 @@ use Rattle.bind_merge.proofs.Spreading.{all_more, is_read_now, reads_one}
 
 pub first-append : {A B : Type 0} (f : A → Option B) (xs ys : List A) → first_some f (xs ++ ys) ≡ or_else (first_some f xs) (first_some f ys)
 first-append f [] ys = refl
-first-append f (x ∷ xs) ys = at (f x) (first-append f xs ys)
+first-append {B = B} f (x ∷ xs) ys = at (f x) (first-append f xs ys)
   where
     at : (o : Option B) → first_some f (xs ++ ys) ≡ or_else (first_some f xs) (first_some f ys)
         → or_else o (first_some f (xs ++ ys)) ≡ or_else (or_else o (first_some f xs)) (first_some f ys)
@@ -67,18 +67,25 @@ matching-snoc compats k n (g ∷ gs) f e = at (is_matching compats g) (matching-
 -- the numbers of matching bindings are those of files
 matching-low : (compats : List (List ℕ)) (k n j : ℕ) (fs : List File) → n ≡ k + length fs → is_among (matching_from compats k fs) j ≡ true → j < n
 matching-low compats k n j [] e h = absurd cc
-matching-low compats k n j (f ∷ fs) e h = at (is_matching compats f) h
+matching-low compats k n j (f ∷ fs) e h = at (λ g. matching-low compats (k + 1) n j fs (e ∙ omega arith) g) (is_matching compats f) h
   where
-    below : is_among (matching_from compats (k + 1) fs) j ≡ true → j < n
-    below g = matching-low compats (k + 1) n j fs (e ∙ omega arith) g
+    here : (is_among (matching_from compats (k + 1) fs) j ≡ true → j < n) → (b : Bool) → nat_eq j k ≡ b
+        → (b || is_among (matching_from compats (k + 1) fs) j) ≡ true → j < n
+    here below true t g = let q : j ≡ k = (Decides-eqb j k).0 t in omega (arith, q, e)
+    here below false t g = below g
 
-    here : (b : Bool) → nat_eq j k ≡ b → (b || is_among (matching_from compats (k + 1) fs) j) ≡ true → j < n
-    here true t g = let q : j ≡ k = (Decides-eqb j k).0 t in omega (arith, q, e)
-    here false t g = below g
+    at : (is_among (matching_from compats (k + 1) fs) j ≡ true → j < n) → (b : Bool)
+        → is_among (if b then k ∷ matching_from compats (k + 1) fs else matching_from compats (k + 1) fs) j ≡ true → j < n
+    at below true g = here below (nat_eq j k) refl g
+    at below false g = below g
 
-    at : (b : Bool) → is_among (if b then k ∷ matching_from compats (k + 1) fs else matching_from compats (k + 1) fs) j ≡ true → j < n
-    at true g = here (nat_eq j k) refl g
-    at false g = below g
+all-snoc : (test : ℕ → Bool) (ks : List ℕ) (k : ℕ) → list_all test ks ≡ true → test k ≡ true → list_all test (ks ++ k ∷ []) ≡ true
+all-snoc test [] k a b = ap (λ x. x && true) b
+all-snoc test (j ∷ js) k a b = at (test j) (λ g. all-snoc test js k g b) a
+  where
+    at : (x : Bool) → (list_all test js ≡ true → list_all test (js ++ k ∷ []) ≡ true) → (x && list_all test js) ≡ true → (x && list_all test (js ++ k ∷ [])) ≡ true
+    at true h g = h g
+    at false h g = absurd cc
 
 -- ---- what a listed file holds
 
@@ -145,6 +152,10 @@ module _ (files : List File) (compats : List (List ℕ)) (i : ℕ) (f : File) (m
       ∙ (ap (λ o. or_else o (or_else (text_fault compats f) (first_some (text_fault compats) (drop (i + 1) files)))) had.texts
       ∙ ap (λ o. or_else o (first_some (text_fault compats) (drop (i + 1) files))) e))
 
+  pub text_end : (end : End) → IsMatched compats f (Err end) → OnFault {X = Unit {0}} (Err end) (λ x. first_some (text_fault compats) files ≡ Some x)
+  text_end (ending.Fault x) h = text_first x h
+  text_end (ending.Memory e) h = tt
+
   pub matched_not : IsMatched compats f (Ok None) → HasMatched files (take (i + 1) files) compats ms reads
   matched_not m = record {
     texts = texts-more m.0;
@@ -210,14 +221,6 @@ module _ (files : List File) (compats : List (List ℕ)) (i : ℕ) (f : File) (m
           cases : (is_read_at reads k ≡ true) ⊎ (is_among (numbers_of ms ++ i ∷ []) k ≡ true) → is_among (numbers_of ms ++ i ∷ []) k ≡ true
           cases (inl w) = spreads.stays k (had.only k w)
           cases (inr w) = w
-
-      all-snoc : (test : ℕ → Bool) (ks : List ℕ) (k : ℕ) → list_all test ks ≡ true → test k ≡ true → list_all test (ks ++ k ∷ []) ≡ true
-      all-snoc test [] k a b = ap (λ x. x && true) b
-      all-snoc test (j ∷ js) k a b = at (test j) a
-        where
-          at : (x : Bool) → (x && list_all test js) ≡ true → (x && list_all test (js ++ k ∷ [])) ≡ true
-          at true g = all-snoc test js k g b
-          at false g = absurd cc
 
 -- ---- what step one makes of a file
 

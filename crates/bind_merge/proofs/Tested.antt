@@ -150,3 +150,7 @@ module _ (files : List FileData) (resolved : List (Option ResolvedData)) (ks : L
     sound = before;
     breaks = h;
   }
+
+  pub first_end : (end : End) → OnFault {X = Unit {0}} (Err end) (BreaksAt files k) → OnFault {X = Unit {0}} (Err end) (IsFirstBroken files ks)
+  first_end (ending.Fault f) h = first_broken f h
+  first_end (ending.Memory e) h = tt

@@ -1,16 +1,18 @@
 -- The bindings that an index finds, with one more.
-use Rattle.std.proofs.Common.{◌≡◌, ◌∙◌, sym, ap, subst, refl, ◌+◌, ◌<◌, length, get_or, take, drop, ℕ, Bool, true, false, ◌||◌, ◌&&◌, if◌then◌else◌, List, [], ◌∷◌, ◌++◌, append_assoc, Option, Some, None, is_some, map}
+use Rattle.std.proofs.Common.{◌≡◌, ◌∙◌, sym, ap, subst, refl, ◌+◌, ◌<◌, length, get_or, take, drop, ℕ, Bool, true, false, ◌||◌, ◌&&◌, if◌then◌else◌, List, [], ◌∷◌, ◌++◌, append_assoc, Option, Some, None, Err, is_some}
 use Rattle.std.specs.List.{list_any}
 use Rattle.std.specs.Str.{bytes_eq}
 use Rattle.std.proofs.lemmas.Bool.Decides.{Decides-eqb}
 use Rattle.std.proofs.lemmas.Option.{slice_get-get_or}
 use Rattle.std.proofs.lemmas.Slice.Eq.{bytes_eq-Decides}
+use Rattle.edt_base.specs.declared.fault.End.{End}
+use Rattle.edt_base.specs.declared.fault.End.TheVariants as ending
 use Rattle.edt_base.specs.declared.fault.Fault.{Fault}
 use Rattle.edt_base.specs.declared.fault.Rule.TheVariants as rule
 use Rattle.bind_merge.specs.Files.{file_fault, name_of}
 use Rattle.bind_merge.specs.LibraryData.{BindingData}
 use Rattle.bind_merge.specs.Listing.{File, read_files}
-use Rattle.bind_merge.specs.Loading.{is_twin, twin_fault, twin_fault_from}
+use Rattle.bind_merge.specs.Loading.{OnFault, is_twin, twin_fault, twin_fault_from}
 use Rattle.bind_merge.specs.Matching.{bus_of, compatible_at, find_in, is_bound, is_for, is_same}
 use Rattle.bind_merge.specs.Options.{or_else}
 use Rattle.bind_merge.specs.declared.matching.Match.{Match}
@@ -178,3 +180,9 @@ module _ (files : List File) (resolved : List (Option ResolvedData)) (ms : List 
   first_twin f taken e =
       ap (twin_fault files) all-is
       ∙ (twin_found files the_before the_one m.compatible the_bus index of string refl (bindings_at resolved (numbers_of (drop (i + 1) ms))) taken none ∙ ap Some (sym e))
+
+  pub twin_end : {X : Type 0} (end : End) → OnFault {X = Unit {0}} (Err end) (λ f. is_some (in_index index m.compatible the_bus) ≡ true)
+      → OnFault {X = Unit {0}} (Err end) (λ f. f ≡ file_fault rule.B12 (name_of (read_files files) m.file))
+      → OnFault {X = X} (Err end) (λ f. twin_fault files (bindings_at resolved (numbers_of ms)) ≡ Some f)
+  twin_end (ending.Fault f) taken e = first_twin f taken e
+  twin_end (ending.Memory x) taken e = tt

@@ -134,10 +134,12 @@ fn load_files(alloc: Global, files: &[(Text, Bytes)], compats: &[Text]) -> Resul
         resolved.as_slice(),
         bindings.as_slice(),
     )?;
-    let index = index_of(alloc, files, matches.as_slice(), resolved.as_slice())?;
-    Ok(Loaded {
-        bindings,
-        resolved,
-        index,
-    })
+    match index_of(alloc, files, matches.as_slice(), resolved.as_slice()) {
+        Ok(index) => Ok(Loaded {
+            bindings,
+            resolved,
+            index,
+        }),
+        Err(end) => Err(end),
+    }
 }

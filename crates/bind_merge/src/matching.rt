@@ -64,16 +64,19 @@ fn match_at(
     ensures fault { OnFault result (λ f. first_some (text_fault strings.now) files.now ≡ Some f) }
 {
     let entry = &files[at];
-    match match_file(alloc, strings, &entry.0, &entry.1)? {
-        Some(Found { compatible, read }) => {
-            matches.push(Match {
-                file: FileNo(at as u32),
-                compatible,
-            })?;
-            reads[at] = Some(read);
-            Ok(())
-        }
-        None => Ok(()),
+    match match_file(alloc, strings, &entry.0, &entry.1) {
+        Ok(found) => match found {
+            Some(Found { compatible, read }) => {
+                matches.push(Match {
+                    file: FileNo(at as u32),
+                    compatible,
+                })?;
+                reads[at] = Some(read);
+                Ok(())
+            }
+            None => Ok(()),
+        },
+        Err(end) => Err(end),
     }
 }
 

@@ -36,7 +36,10 @@ pub(crate) fn test_all(
     ensures fault { OnFault result (IsFirstBroken (read_files files.now) bindings.now) }
 {
     for binding in bindings {
-        test(alloc, files, names, reads, resolved, *binding)?;
+        match test(alloc, files, names, reads, resolved, *binding) {
+            Ok(()) => {}
+            Err(end) => return Err(end),
+        }
     }
     Ok(())
 }

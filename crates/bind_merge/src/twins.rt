@@ -33,7 +33,10 @@ pub(crate) fn index_of(
 {
     let mut index = Index::new(alloc);
     for found in matches {
-        add_match(alloc, files, found, resolved, &mut index)?;
+        match add_match(alloc, files, found, resolved, &mut index) {
+            Ok(()) => {}
+            Err(end) => return Err(end),
+        }
     }
     Ok(index)
 }

@@ -1,22 +1,20 @@
-use Rattle.std.proofs.Common.{rules, ◌≡◌, IfOk, None, OnOk, Some, is_some, true, ℕ, ◌+◌, ◌-◌, ◌*◌, ◌<◌, ◌≤◌, length, ◌/◌, ◌%◌, Bool, false, nat_eq, nat_lt, List, [], ◌∷◌, ◌++◌, slice_index_or, slice_set, bit_and, bit_or, Fits, w8, w32, w64, Bor, MutBor}
-use Rattle.edt_base.specs.declared.fault.Rule.TheVariants as rule
-use Rattle.bind_merge.specs.Files.{file_fault, name_of}
-use Rattle.bind_merge.specs.Listing.{read_files}
-use Rattle.bind_merge.specs.Loading.{OnFault, twin_fault}
-use Rattle.bind_merge.specs.Matching.{bus_of, compatible_at}
-use Rattle.bind_merge.specs.Inner.Indexing.{HasPair, IsIndexOf, in_index}
-use Rattle.bind_merge.specs.Inner.Resolving.{resolved_at}
-use Rattle.bind_merge.specs.Inner.Steps.{AreStrings, bindings_at, levels_in, numbers_of}
+use Rattle.std.proofs.Common.{refl, sym}
+use Rattle.bind_merge.proofs.Gone.{got}
+use Rattle.bind_merge.proofs.Matched.{string_at}
+use Rattle.bind_merge.proofs.Twinned.{indexed_more, twin_end}
 use Rattle.bind_merge.proofs.twins.index_of.Goals as goal
 
--- src/twins.rt:36:9
 pub add_match-requires : goal.add_match-requires
-add_match-requires c = ?
+add_match-requires c =
+    string_at c.args.files.now c.args.matches.now c.loop-found.found-index c.found-item.result
+    (got c.args.matches.now c.loop-found.found-index c.loop-found.found-index c.found-item.result refl c.loop-found-test.true c.found-item.is) c.requires
 
--- src/twins.rt:36:9
-pub returns-in_err-add_match-clause-fault : goal.returns-in_err-add_match-clause-fault
-returns-in_err-add_match-clause-fault c = ?
+pub returns-in-Err-clause-fault : goal.returns-in-Err-clause-fault
+returns-in-Err-clause-fault c =
+    twin_end c.args.files.now c.args.resolved.now c.args.matches.now c.loop-found.found-index c.found-item.result c.loop-found-test.true (sym c.found-item.is) c.requires c.loop-found.index.groups.entries c.add_match.new.index.groups.entries
+    c.loop-found.invariant.0 c.loop-found.invariant.1 c.in-Err.end c.in-Err.ensures.taken c.in-Err.ensures.fault
 
--- src/twins.rt:35:5
 pub loop-found-preserved : goal.loop-found-preserved
-loop-found-preserved c = ?
+loop-found-preserved c =
+    indexed_more c.args.files.now c.args.resolved.now c.args.matches.now c.loop-found.found-index c.found-item.result c.loop-found-test.true (sym c.found-item.is) c.requires c.loop-found.index.groups.entries c.add_match.new.index.groups.entries
+    c.loop-found.invariant.0 c.loop-found.invariant.1 c.in-Ok.ensures.free c.in-Ok.ensures.added
