@@ -1,14 +1,12 @@
 -- Tests of equality, and what they tell.
-use Rattle.std.proofs.Common.{◌≡◌, ◌⊎◌, ◌&&◌, ◌↔◌, IsTrue, inl, inr, ◌∙◌, sym, ap, refl, subst, ℕ, ℤ, Bool, true, false, List, [], ◌∷◌, Option, Some, None, map, length, nat_eq, suc, arith}
+use Rattle.std.proofs.Common.{◌≡◌, ◌&&◌, ◌↔◌, IsTrue, ◌∙◌, sym, ap, refl, subst, ℕ, Bool, true, false, List, [], ◌∷◌, Some, None, map, length, nat_eq, suc, arith}
 use Rattle.std.proofs.lemmas.Bool.Decides.{Decides-eqb}
-use Rattle.std.specs.Bool.{Decides}
 use Rattle.std.specs.Str.{bytes_eq}
-use Rattle.std.specs.Ordering.{int_eq}
 use Rattle.std.specs.Cmp.{signed_Decides}
 use Rattle.std.specs.Cmp.Lexicographic.{pointwise, pointwise_decides, bytes_decides}
 use Rattle.edt_base.specs.declared.yaml.Yaml.{Yaml}
 use Rattle.edt_base.specs.YamlData.{value_of, pair_of, pairs_from, items_from, Value, a_map, a_list, a_text, a_number, a_truth, null, other, Items, end, item, Pairs, last, pair}
-use Rattle.bind_merge.specs.Same.{same, same_items, same_pairs, same_list, same_truth, is_null, is_other, pairs_in, items_in}
+use Rattle.bind_merge.specs.Same.{same, same_items, same_pairs, same_list, same_truth, pairs_in, items_in}
 
 and-true : (a b : Bool) → (a && b) ≡ true → (a ≡ true) × (b ≡ true)
 and-true true b e = (refl, e)

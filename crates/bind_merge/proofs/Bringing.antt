@@ -1,5 +1,5 @@
 -- The steps of bringing what includes have.
-use Rattle.std.proofs.Common.{◌≡◌, ◌⊎◌, ◌+◌, ◌≤◌, ◌<◌, ◌++◌, ◌&&◌, inl, inr, ◌∙◌, sym, ap, refl, subst, ℕ, zero, suc, Bool, true, false, List, [], ◌∷◌, Option, Some, None, length, map, drop, get_or, drop-cons, is_some, arith}
+use Rattle.std.proofs.Common.{◌≡◌, ◌⊎◌, ◌+◌, ◌≤◌, ◌<◌, ◌++◌, ◌&&◌, inr, ◌∙◌, sym, ap, refl, subst, ℕ, suc, Bool, true, false, List, [], ◌∷◌, Option, Some, None, length, map, drop, get_or, drop-cons, is_some, arith}
 use Rattle.std.specs.List.{list_all}
 use Rattle.bind_load.specs.RecordData.{IncludeData, FilterLevel}
 use Rattle.bind_merge.specs.Adding.{AddsAt, behind, onto, below, AddsFrom, no_more, one_more, Comes, AreTablesOf}

@@ -1,5 +1,5 @@
 -- An entry that has all that another has is what they make, joined.
-use Rattle.std.proofs.Common.{◌≡◌, ◌&&◌, ◌∙◌, sym, ap, refl, ℕ, Bool, true, false, List, Option, Some, None}
+use Rattle.std.proofs.Common.{◌≡◌, ◌&&◌, refl, Bool, true, false, Option, Some, None}
 use Rattle.bind_merge.specs.Levels.{EntryData}
 use Rattle.bind_merge.specs.Options.{or_else}
 use Rattle.bind_merge.specs.Covering.{covers, covers_all}

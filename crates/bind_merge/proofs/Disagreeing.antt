@@ -1,7 +1,6 @@
 -- Where the values of one setting differ, entries disagree.
-use Rattle.std.proofs.Common.{◌≡◌, ◌↔◌, IsTrue, ◌∙◌, sym, ap, refl, ℕ, Bool, true, false, List, Option, Some, None}
-use Rattle.std.specs.Option.{option_map}
-use Rattle.bind_merge.specs.Facts.{Setting, Kind, its_type, its_required, its_deprecated, its_default, its_constant, its_choices, its_space, its_cells, type_is, required, deprecated, default, constant, choices, space, cells, kind, setting_at}
+use Rattle.std.proofs.Common.{◌≡◌, ◌↔◌, IsTrue, refl, Bool, true, false}
+use Rattle.bind_merge.specs.Facts.{its_type, its_required, its_deprecated, its_default, its_constant, its_choices, its_space, its_cells, type_is, required, deprecated, default, constant, choices, space, cells}
 use Rattle.bind_merge.specs.Levels.{EntryData}
 use Rattle.bind_merge.specs.Joining.{AgreeOn, Disagree}
 use Rattle.bind_merge.proofs.Joined.{differ-at}

@@ -1,13 +1,13 @@
 -- The steps of looking up by halving.
-use Rattle.std.proofs.Common.{◌≡◌, ◌<◌, ◌≤◌, ◌+◌, ◌∙◌, sym, ap, refl, subst, ℕ, zero, suc, List, [], Option, Some, None, length, drop, get_or, arith}
+use Rattle.std.proofs.Common.{◌≡◌, ◌<◌, ◌+◌, ◌∙◌, ap, refl, subst, ℕ, suc, List, None, length, drop, get_or, arith}
 use Rattle.std.proofs.lemmas.List.{drop_all}
 use Rattle.std.specs.Cmp.Lexicographic.{slice_cmp}
 use Rattle.std.specs.Ordering.{nat_cmp}
-use Rattle.std.specs.declared.cmp.Ordering.TheVariants.{Less, Equal, Greater}
+use Rattle.std.specs.declared.cmp.Ordering.TheVariants.{Less, Greater}
 use Rattle.bind_merge.specs.Levels.{EntryData}
 use Rattle.bind_merge.specs.Looking.{entry_named}
 use Rattle.bind_merge.specs.Ordered.{Rises}
-use Rattle.bind_merge.proofs.Looked.{less-skip, greater-none, equal-found}
+use Rattle.bind_merge.proofs.Looked.{less-skip, greater-none}
 
 -- the name, if it is there, stands from `low` on and before `high`
 pub record Between (p : List ℕ) (es : List EntryData) (low high : ℕ) : Type 0 where

@@ -1,5 +1,5 @@
 -- The steps of adding an included file's levels, at their places.
-use Rattle.std.proofs.Common.{◌≡◌, ◌+◌, ◌<◌, ◌≤◌, ◌∙◌, sym, subst, ℕ, suc, Bool, true, false, List, [], ◌∷◌, length, drop, get_or, drop-cons, arith}
+use Rattle.std.proofs.Common.{◌≡◌, ◌+◌, ◌<◌, ◌≤◌, sym, subst, ℕ, suc, Bool, true, List, [], ◌∷◌, length, drop, get_or, drop-cons, arith}
 use Rattle.bind_load.specs.RecordData.{FilterLevel}
 use Rattle.bind_merge.specs.Adding.{AddsAt, behind, onto, below, no_more, Comes, ClashAt, ClashFrom, top_filter, filter_below}
 use Rattle.bind_merge.specs.Joining.{passed}

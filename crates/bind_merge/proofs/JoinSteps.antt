@@ -1,12 +1,11 @@
 -- The steps of joining two lists in order.
-use Rattle.std.proofs.Common.{inl, inr, ◌≡◌, ◌+◌, ◌<◌, ◌≤◌, ◌++◌, ◌∙◌, sym, ap, refl, subst, ℕ, zero, suc, List, [], ◌∷◌, length, drop, get_or, append_assoc, drop-cons, add-one, arith, ◌-◌, take, length-drop}
+use Rattle.std.proofs.Common.{inl, inr, ◌≡◌, ◌+◌, ◌<◌, ◌≤◌, ◌++◌, sym, ap, refl, subst, ℕ, suc, List, [], ◌∷◌, length, drop, get_or, append_assoc, drop-cons, arith, ◌-◌, take, length-drop}
 use Rattle.std.proofs.Math.Seq.{take-length}
 use Rattle.std.proofs.lemmas.Grind.{common_steps}
 use Rattle.std.specs.Cmp.Lexicographic.{slice_cmp}
 use Rattle.std.specs.Ordering.{nat_cmp}
 use Rattle.std.specs.declared.cmp.Ordering.TheVariants.{Less, Equal, Greater}
 use Rattle.std.proofs.lemmas.Map.Lookups.{exact_bytes}
-use Rattle.bind_merge.specs.Facts.{Setting, IsGiven}
 use Rattle.bind_merge.specs.Levels.{EntryData}
 use Rattle.bind_merge.specs.Joining.{Agree, Disagree, joined, Joins, none_left, none_right, left_first, right_first, together, ClashIn}
 

@@ -1,10 +1,12 @@
 -- What lists of names keep of entries.
-use Rattle.std.proofs.Common.{◌≡◌, ◌&&◌, ◌∙◌, sym, ap, refl, subst, ℕ, Bool, true, false, List, [], ◌∷◌, Option, Some, None, map, cond}
-use Rattle.std.specs.List.{filter}
+use Rattle.std.proofs.Common.{◌≡◌, ◌&&◌, ◌∙◌, ◌+◌, ◌<◌, ◌++◌, sym, ap, refl, ℕ, Bool, true, false, not, List, [], ◌∷◌, Option, Some, None, map, cond, drop, get_or, length, append_assoc}
+use Rattle.std.specs.List.{filter, list_any}
+use Rattle.std.specs.Str.{bytes_eq}
+use Rattle.std.proofs.lemmas.List.{drop_more}
 use Rattle.bind_load.specs.RecordData.{FilterLevel}
 use Rattle.bind_merge.specs.Levels.{EntryData}
 use Rattle.bind_merge.specs.Joining.{inherited, passed_props}
-use Rattle.bind_merge.specs.Looking.{is_kept_where}
+use Rattle.bind_merge.specs.Looking.{is_kept, is_kept_where}
 use Rattle.bind_merge.specs.Passing.{level_lets, is_allowed, is_unblocked}
 
 all-kept : (t : EntryData → Bool) (es : List EntryData) → ((e : EntryData) → t e ≡ true) → es ≡ filter t es
@@ -46,3 +48,31 @@ kept-twice allow block f es p q =
     twice (λ (e : EntryData). is_kept_where true allow e.name) (λ (e : EntryData). is_kept_where false block e.name) (λ (e : EntryData). level_lets e.name (Some f)) es
     (λ e. ap (λ x. x && is_kept_where false block e.name) (allowed-is e.name allow ∙ ap (λ o. is_allowed e.name o) (sym p))
     ∙ ap (λ x. is_allowed e.name f.allow && x) (unblocked-is e.name block ∙ ap (λ o. is_unblocked e.name o) (sym q)))
+
+-- ---- one entry after another
+
+module _ (t : EntryData → Bool) (ks es : List EntryData) (i : ℕ) (z : EntryData) (all : List EntryData)
+    (l : i < length es) (is : z ≡ get_or es i z) (so_far : ks ++ filter t (drop i es) ≡ all) where
+  opened : filter t (drop i es) ≡ filter t (z ∷ drop (i + 1) es)
+  opened = ap (filter t) (drop_more es i z l ∙ ap (λ w. w ∷ drop (i + 1) es) (sym is))
+
+  pub keeps-one : t z ≡ true → (ks ++ z ∷ []) ++ filter t (drop (i + 1) es) ≡ all
+  keeps-one h =
+      append_assoc ks (z ∷ []) (filter t (drop (i + 1) es))
+      ∙ ap (λ xs. ks ++ xs) (sym (opened ∙ ap (λ b. cond b (z ∷ filter t (drop (i + 1) es)) (filter t (drop (i + 1) es))) h))
+      ∙ so_far
+
+  pub leaves-one : t z ≡ false → ks ++ filter t (drop (i + 1) es) ≡ all
+  leaves-one h =
+      ap (λ xs. ks ++ xs) (sym (opened ∙ ap (λ b. cond b (z ∷ filter t (drop (i + 1) es)) (filter t (drop (i + 1) es))) h))
+      ∙ so_far
+
+pub kept-when : (among : Bool) (names : List (List ℕ)) (p : List ℕ) (b : Bool) → b ≡ list_any (λ n. bytes_eq n p) names → b ≡ among → is_kept among names p ≡ true
+kept-when true names p b e f = sym e ∙ f
+kept-when false names p b e f = ap not (sym e ∙ f)
+
+pub left-when : (among : Bool) (names : List (List ℕ)) (p : List ℕ) (b : Bool) → b ≡ list_any (λ n. bytes_eq n p) names → (b ≡ among → ⊥) → is_kept among names p ≡ false
+left-when true names p true e f = absurd (f refl)
+left-when true names p false e f = sym e
+left-when false names p true e f = ap not (sym e)
+left-when false names p false e f = absurd (f refl)

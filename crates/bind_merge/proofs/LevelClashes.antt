@@ -1,6 +1,6 @@
 -- Where two levels say two values of one key.
-use Rattle.std.proofs.Common.{inl, inr, ◌≡◌, ◌++◌, ◌∙◌, sym, ap, refl, subst, ℕ, zero, suc, ◌<◌, Bool, true, false, List, [], ◌∷◌, Option, Some, None, length, arith, get_or, set}
-use Rattle.bind_merge.specs.Facts.{Fact, Says, Clash, buses, on_bus, of_space, of_prop}
+use Rattle.std.proofs.Common.{◌≡◌, ◌++◌, refl, subst, ℕ, zero, suc, ◌<◌, List, [], ◌∷◌, Option, Some, None, length, arith, get_or, set}
+use Rattle.bind_merge.specs.Facts.{Fact, Says, buses, on_bus, of_space, of_prop}
 use Rattle.bind_merge.specs.Levels.{LevelTable}
 use Rattle.bind_merge.specs.Joining.{AgreeOn, ClashIn, ClashOf, JoinsLevel}
 use Rattle.bind_merge.specs.Adding.{AddsAt, behind, onto, below, ClashAt}

@@ -25,6 +25,7 @@ pub mod NamedFiles
 pub mod Places
 pub mod ReadAnswers
 pub mod ReadingOn
+pub mod Showing
 pub mod Sorting
 pub mod Spreading
 pub mod Stringing

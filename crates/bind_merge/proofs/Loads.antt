@@ -1,11 +1,13 @@
 -- The three steps of loading, one after another.
-use Rattle.std.proofs.Common.{◌≡◌, ◌∙◌, sym, ap, subst, refl, inl, inr, ◌⊎◌, ℕ, true, List, [], ◌∷◌, Option, Some, None}
+use Rattle.std.proofs.Common.{◌≡◌, ◌∙◌, sym, ap, subst, refl, inl, inr, ◌⊎◌, ℕ, true, List, [], ◌∷◌, Option, Some, None, Err}
 use Rattle.std.specs.List.{list_all}
+use Rattle.edt_base.specs.declared.fault.End.{End}
+use Rattle.edt_base.specs.declared.fault.End.TheVariants as ending
 use Rattle.edt_base.specs.declared.fault.Fault.{Fault}
 use Rattle.bind_merge.specs.Files.{FileData}
 use Rattle.bind_merge.specs.LibraryData.{BindingData}
 use Rattle.bind_merge.specs.Listing.{File, read_files}
-use Rattle.bind_merge.specs.Loading.{AreSound, IsFirstBroken, IsFirstFault, IsLoaded, matching, text_fault, twin_fault}
+use Rattle.bind_merge.specs.Loading.{AreSound, IsFirstBroken, IsFirstFault, IsLoaded, OnFault, matching, text_fault, twin_fault}
 use Rattle.bind_merge.specs.Options.{first_some}
 use Rattle.bind_merge.specs.declared.matching.Match.{Match}
 use Rattle.bind_merge.specs.declared.reading.Read.{Read}
@@ -61,3 +63,8 @@ module _ (files : List File) (compats : List (List ℕ)) (ms : List Match) (star
         sound = sound;
         twin = ap (λ ks. twin_fault files (bindings_at resolved ks)) are ∙ twin;
       }))
+
+      pub at_end : (X Y : Type 0) (end : End) → AreSound (read_files files) (bindings_at resolved numbers)
+          → OnFault {X = X} (Err end) (λ f. twin_fault files (bindings_at resolved (numbers_of ms)) ≡ Some f) → OnFault {X = Y} (Err end) (IsFirstFault files compats)
+      at_end X Y (ending.Fault f) sound twin = at_first_twin f sound twin
+      at_end X Y (ending.Memory e) sound twin = tt

@@ -3,21 +3,16 @@ use Rattle.std.proofs.Common.{◌≡◌, ◌⊎◌, ◌+◌, ◌++◌, inl, inr,
 use Rattle.std.specs.List.{slice_get}
 use Rattle.std.specs.Option.{option_and_then}
 use Rattle.bind_load.specs.RecordData.{IncludeData, LevelData}
-use Rattle.bind_merge.specs.declared.names.Named.{Named}
-use Rattle.bind_merge.specs.declared.names.Named.TheVariants.{One, Several}
 use Rattle.bind_merge.specs.Adding.{AreTablesOf}
 use Rattle.bind_merge.specs.Answering.{ClashAmong}
-use Rattle.bind_merge.specs.Conflicts.{Conflict, HasConflict}
-use Rattle.bind_merge.specs.Facts.{Fact}
+use Rattle.bind_merge.specs.Conflicts.{HasConflict}
 use Rattle.bind_merge.specs.Files.{FileData, record_at, named_files, includes_from, at_level, IsAmong}
-use Rattle.bind_merge.specs.Holdings.{Holds, itself, Includes}
+use Rattle.bind_merge.specs.Holdings.{itself, Includes}
 use Rattle.bind_merge.specs.Joining.{ClashOf}
 use Rattle.bind_merge.specs.Levels.{LevelTable, OwnData, own_table, own_level}
-use Rattle.bind_merge.specs.Merging.{IsMerged}
-use Rattle.bind_merge.specs.Ordered.{SaysAt}
 use Rattle.bind_merge.specs.Uniting.{Unites, all_in, next_in}
-use Rattle.bind_merge.specs.Inner.Bringing.{Brings, IsSpoiled, Collides, BringsAll, ends, goes_on, stops}
-use Rattle.bind_merge.specs.Inner.Resolving.{NameData, ResolvedData, named_in, told, AreNames, IsSettled, AreSettled, resolved_at, resolved_as, found_by, own_includes, Merges}
+use Rattle.bind_merge.specs.Inner.Bringing.{IsSpoiled, Collides, BringsAll, ends, goes_on, stops}
+use Rattle.bind_merge.specs.Inner.Resolving.{NameData, ResolvedData, told, AreNames, IsSettled, AreSettled, resolved_at, resolved_as, found_by, own_includes, Merges}
 use Rattle.bind_merge.proofs.Clashing.{AreHeld, from-held, clash-conflict, conflict-itself, conflict-below}
 use Rattle.bind_merge.proofs.United.{Spoken, says-own, merges_once}
 

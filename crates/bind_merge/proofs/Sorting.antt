@@ -1,11 +1,10 @@
 -- Sorting by joining halves.
-use Rattle.std.proofs.Common.{inl, inr, ◌≡◌, ◌⊎◌, ◌<◌, ◌++◌, ◌∙◌, sym, ap, refl, subst, ℕ, zero, suc, List, [], ◌∷◌, Option, Some, None, length, arith}
+use Rattle.std.proofs.Common.{inl, inr, ◌⊎◌, ◌<◌, ◌++◌, ℕ, List, [], ◌∷◌, Option, Some, None, length, arith}
 use Rattle.bind_merge.specs.Facts.{Setting, IsGiven}
-use Rattle.bind_merge.specs.Levels.{EntryData, LevelTable}
-use Rattle.bind_merge.specs.Joining.{Joins, ClashIn, AgreeOn, ClashOf, JoinsLevel}
-use Rattle.bind_merge.specs.Adding.{IsSortedOf, AddsAt, behind, onto, below, ClashAt}
+use Rattle.bind_merge.specs.Levels.{EntryData}
+use Rattle.bind_merge.specs.Joining.{ClashIn}
+use Rattle.bind_merge.specs.Adding.{IsSortedOf}
 use Rattle.bind_merge.specs.Answering.{JoinsOr, SortedOr}
-use Rattle.bind_merge.specs.Ordered.{Rises}
 use Rattle.bind_merge.proofs.JoinedLists.{joins-left, joins-right, joins-cases, joins-rise}
 
 given-front : (xs ys : List EntryData) (p : List ℕ) (s : Setting) → IsGiven xs p s → IsGiven (xs ++ ys) p s

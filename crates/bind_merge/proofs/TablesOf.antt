@@ -1,5 +1,5 @@
 -- The tables of a record's levels, one after another.
-use Rattle.std.proofs.Common.{◌≡◌, ◌⊎◌, ◌+◌, ◌<◌, ◌++◌, ◌∙◌, inl, inr, sym, ap, refl, subst, ℕ, suc, List, [], ◌∷◌, length, drop, get_or, drop-cons, append_assoc, arith}
+use Rattle.std.proofs.Common.{◌≡◌, ◌+◌, ◌<◌, ◌++◌, inl, inr, sym, ap, refl, subst, ℕ, suc, List, [], ◌∷◌, length, drop, get_or, drop-cons, append_assoc, arith}
 use Rattle.bind_merge.specs.Adding.{IsTableOf, AreTablesOf}
 use Rattle.bind_merge.specs.Answering.{ClashAmong}
 use Rattle.bind_merge.specs.Joining.{ClashOf}

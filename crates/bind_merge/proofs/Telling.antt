@@ -1,11 +1,11 @@
 -- What a view tells is what the merged levels say.
-use Rattle.std.proofs.Common.{◌≡◌, ◌↔◌, ◌∙◌, sym, ap, refl, subst, ℕ, zero, suc, List, [], ◌∷◌, Option, Some, None}
-use Rattle.bind_merge.specs.Facts.{Setting, Fact, Gives, IsGiven, there, buses, on_bus, of_space, of_prop}
+use Rattle.std.proofs.Common.{◌≡◌, ◌↔◌, sym, refl, subst, ℕ, suc, List, [], ◌∷◌, Option, Some, None}
+use Rattle.bind_merge.specs.Facts.{Setting, Fact, Gives, IsGiven}
 use Rattle.bind_merge.specs.Levels.{EntryData, LevelTable}
 use Rattle.bind_merge.specs.Looking.{entry_named}
-use Rattle.bind_merge.specs.Ordered.{IsInOrder, Rises, SaysAt}
-use Rattle.bind_merge.specs.ViewData.{buses_in, bus_in, child_in, prop_in, spaces_in}
-use Rattle.bind_merge.specs.Telling.{HasSetting, SaysBelow, Tells, ViewsTell}
+use Rattle.bind_merge.specs.Ordered.{Rises, SaysAt}
+use Rattle.bind_merge.specs.ViewData.{child_in}
+use Rattle.bind_merge.specs.Telling.{HasSetting, SaysBelow, ViewsTell}
 use Rattle.bind_merge.proofs.Looked.{found-given, given-found}
 
 has-given : (p : List ℕ) (es : List EntryData) (s : Setting) (o : Option EntryData) → entry_named p es ≡ o → HasSetting o s → IsGiven es p s

@@ -1,8 +1,8 @@
 -- The rules that the merged binding itself is tested for.
-use Rattle.std.specs.Prelude.{◌&&◌, ◌||◌, ℕ, ℤ, pos, negsuc, Bool, true, false, List, [], ◌∷◌, Option, Some, None, if◌then◌else◌, not, is_some, is_none, nat_eq, nat_le, codes}
+use Rattle.std.specs.Prelude.{◌&&◌, pos, negsuc, Bool, true, false, List, [], ◌∷◌, Option, Some, None, if◌then◌else◌, not, is_none, nat_eq, nat_le, codes}
 use Rattle.std.specs.List.{list_all, ends_with}
 use Rattle.std.specs.Option.{option_map_or}
-use Rattle.edt_base.specs.YamlData.{Value, a_map, a_list, a_text, a_number, a_truth, null, other, item_list}
+use Rattle.edt_base.specs.YamlData.{Value, a_list, a_text, a_number, item_list}
 use Rattle.edt_base.specs.declared.bound.PropType.{PropType}
 use Rattle.edt_base.specs.declared.bound.PropType.TheVariants as type
 use Rattle.edt_base.specs.declared.fault.Rule.{Rule}

@@ -23,6 +23,7 @@ pub mod Options
 pub mod Ordered
 pub mod Passing
 pub mod Same
+pub mod Showing
 pub mod Telling
 pub mod Uniting
 pub mod ViewData

@@ -1,5 +1,5 @@
 -- Whether two YAML values are the same: maps with their keys in the same order.
-use Rattle.std.specs.Prelude.{◌&&◌, ℕ, ℤ, Bool, true, false, List, [], ◌∷◌, Option, Some, None}
+use Rattle.std.specs.Prelude.{◌&&◌, Bool, true, false, List, [], ◌∷◌, Option, Some, None}
 use Rattle.std.specs.Ordering.{int_eq}
 use Rattle.std.specs.Str.{bytes_eq}
 use Rattle.edt_base.specs.YamlData.{Value, a_map, a_list, a_text, a_number, a_truth, null, other, Items, end, item, Pairs, last, pair}

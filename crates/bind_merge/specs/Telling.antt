@@ -1,6 +1,6 @@
 -- What a view tells is what the merged levels say, fact by fact.
-use Rattle.std.specs.Prelude.{◌≡◌, ◌↔◌, ℕ, zero, suc, List, [], ◌∷◌, Option, Some, None}
-use Rattle.bind_merge.specs.Facts.{Setting, Fact, Gives, there, buses, on_bus, of_space, of_prop}
+use Rattle.std.specs.Prelude.{◌≡◌, ◌↔◌, ℕ, zero, suc, List, Option, Some, None}
+use Rattle.bind_merge.specs.Facts.{Setting, Fact, Gives, buses, on_bus, of_space, of_prop}
 use Rattle.bind_merge.specs.Levels.{EntryData, LevelTable}
 use Rattle.bind_merge.specs.Looking.{entry_named}
 use Rattle.bind_merge.specs.Ordered.{IsInOrder, SaysAt}

@@ -1,6 +1,6 @@
 -- A merged binding as its views show it: the list of its levels, a view's own level first. A view's
 -- entries stand in byte order of their names, and each of its properties has a type.
-use Rattle.std.specs.Prelude.{◌≡◌, ℕ, Bool, List, [], ◌∷◌, Option, Some, None, is_some, IsTrue, map}
+use Rattle.std.specs.Prelude.{ℕ, Bool, List, [], ◌∷◌, Option, Some, None, is_some, IsTrue, map}
 use Rattle.std.specs.List.{list_all}
 use Rattle.std.specs.Option.{option_and_then}
 use Rattle.bind_merge.specs.Levels.{EntryData, LevelTable}

@@ -1,6 +1,7 @@
 //! The laws on which resolving each file once rests.
 
 ghost use Rattle.bind_merge.specs.Laws.{MergesOnce, MetAgain, WalksOnce};
+ghost use Rattle.bind_merge.specs.Showing.{ViewsShow};
 ghost use Rattle.bind_merge.specs.Telling.{ViewsTell};
 
 /// A walk over a file and its includes, at most d of them below one another, meets no fault exactly
@@ -32,4 +33,11 @@ pub fn merges_once()
 #[tactic(auto, using(crate::proofs::Telling::views_tell))]
 pub fn views_tell()
     ensures { ViewsTell }
+{}
+
+/// What the views of a file's merged binding show, at each child-binding step, is what the file holds
+/// there along its includes, filters and child-bindings: the names of the properties, their settings,
+/// whether one is required, the cells of a space, the buses and the bus, and whether there is a child.
+pub fn views_show()
+    ensures { ViewsShow }
 {}

@@ -21,12 +21,10 @@ mod shared;
 mod sound;
 mod strings;
 mod table;
-#[cfg(test)]
-mod tests;
 mod twins;
 mod view;
 mod walk;
 
-pub use laws::{merges_once, met_again, views_tell, walks_once};
+pub use laws::{merges_once, met_again, views_show, views_tell, walks_once};
 pub use library::Library;
 pub use view::{PropView, View};

@@ -81,11 +81,10 @@ pub(crate) fn kept(
 ) -> Result<Vec<Entry>, AllocError>
     ensures { IfOk result (λ v. v.items ≡ filter (λ (e : EntryData). is_kept_where among (option_map (λ n. n.items) names.now) e.name) entries.now) }
 {
-    match names {
-        Some(names) => kept_by(alloc, entries, names.as_slice(), among),
-        None => {
-            let all = share_all(alloc, entries)?;
-            Ok(all)
-        }
-    }
+    let Some(names) = names else {
+        let all = share_all(alloc, entries)?;
+        return Ok(all);
+    };
+    let kept = kept_by(alloc, entries, names.as_slice(), among)?;
+    Ok(kept)
 }

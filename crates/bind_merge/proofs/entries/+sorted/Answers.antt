@@ -1,6 +1,5 @@
-use Rattle.std.proofs.Common.{◌≡◌, ◌++◌, ◌∙◌, sym, ap, subst, List, Option, Some, None, take, drop, length, take-append-drop}
+use Rattle.std.proofs.Common.{◌≡◌, ◌++◌, sym, subst, take-append-drop}
 use Rattle.std.specs.Option.{option_map}
-use Rattle.bind_merge.specs.Levels.{EntryData}
 use Rattle.bind_merge.specs.Joining.{ClashIn}
 use Rattle.bind_merge.specs.Adding.{IsSortedOf}
 use Rattle.bind_merge.specs.Answering.{JoinsOr, SortedOr}

@@ -1,9 +1,7 @@
-use Rattle.std.proofs.Common.{◌≡◌, ◌≤◌, ◌<◌, ◌+◌, ◌++◌, ◌∙◌, sym, ap, subst, length, drop, List, [], ◌∷◌, arith}
+use Rattle.std.proofs.Common.{◌≡◌, ◌+◌, ◌++◌, ◌∙◌, sym, ap, subst, drop, [], ◌∷◌, arith}
 use Rattle.std.specs.Cmp.Lexicographic.{slice_cmp}
 use Rattle.std.specs.Ordering.{nat_cmp}
-use Rattle.std.specs.declared.cmp.Ordering.{Ordering}
 use Rattle.std.specs.declared.cmp.Ordering.TheVariants.{Less, Equal, Greater}
-use Rattle.bind_merge.specs.Levels.{EntryData}
 use Rattle.bind_merge.specs.Joining.{Joins, joined}
 use Rattle.bind_merge.proofs.JoinSteps.{Goes, at-left, at-right, at-both, at-clash, no-left, no-right, tail-is}
 use Rattle.bind_merge.proofs.entries.joined.Goals as goal

@@ -1,4 +1,4 @@
-use Rattle.std.proofs.Common.{◌≡◌, ◌≤◌, ◌+◌, ◌-◌, length, drop}
+use Rattle.std.proofs.Common.{◌≤◌, ◌+◌, ◌-◌, length, drop}
 use Rattle.bind_merge.proofs.JoinSteps.{Goes}
 use Rattle.bind_merge.proofs.entries.joined.Given as goal
 

@@ -1,4 +1,4 @@
-use Rattle.std.proofs.Common.{◌≡◌, ◌≤◌, ◌-◌, length}
+use Rattle.std.proofs.Common.{◌≤◌, ◌-◌, length}
 use Rattle.bind_merge.proofs.Halving.{Between}
 use Rattle.bind_merge.proofs.lookup.look.Given as goal
 

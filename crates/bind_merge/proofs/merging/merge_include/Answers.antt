@@ -1,4 +1,4 @@
-use Rattle.std.proofs.Common.{◌≡◌, ◌∙◌, sym, ap, inl, Option, Some, None}
+use Rattle.std.proofs.Common.{◌≡◌, ◌∙◌, sym, ap, inl, Some, None}
 use Rattle.std.specs.Option.{option_map}
 use Rattle.bind_load.specs.RecordSeen.{include_of}
 use Rattle.bind_merge.specs.Inner.Resolving.{ResolvedData, found_by}

@@ -1,10 +1,8 @@
-use Rattle.std.proofs.Common.{◌≡◌, ◌⊎◌, ◌≤◌, true, List, [], length, map, drop, arith}
-use Rattle.std.specs.List.{list_all}
+use Rattle.std.proofs.Common.{◌≡◌, ◌⊎◌, ◌≤◌, [], length, map, drop, arith}
 use Rattle.std.proofs.lemmas.List.{drop_all}
 use Rattle.bind_load.specs.RecordSeen.{include_of}
 use Rattle.bind_merge.specs.Files.{at_level}
 use Rattle.bind_merge.specs.Inner.Bringing.{Brings, IsSpoiled, Collides}
-use Rattle.bind_merge.specs.Inner.Resolving.{is_ready}
 use Rattle.bind_merge.proofs.Bringing.{going-starts, brings-length, includes-ready, includes-next, includes-stop, includes-end}
 use Rattle.bind_merge.proofs.merging.merge_includes.Goals as goal
 

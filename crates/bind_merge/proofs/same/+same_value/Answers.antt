@@ -1,8 +1,7 @@
-use Rattle.std.proofs.Common.{rules, ◌≡◌, ◌∙◌, sym, ap, subst, map, ℕ, List, [], ◌∷◌, drop, length, arith}
+use Rattle.std.proofs.Common.{rules, ◌≡◌, ◌∙◌, sym, map, [], drop, arith}
 use Rattle.std.proofs.lemmas.List.{drop_all}
-use Rattle.edt_base.specs.YamlData.{Value, value_of, a_map, a_list, pair_of, pairs_from, items_from}
+use Rattle.edt_base.specs.YamlData.{value_of, a_map, pair_of, pairs_from}
 use Rattle.edt_base.specs.declared.yaml.Yaml.{the_lemmas}
-use Rattle.bind_merge.specs.Same.{same, same_pairs, same_items}
 use Rattle.bind_merge.proofs.Agreeing.{same_map, empty_pairs, empty_items}
 use Rattle.bind_merge.proofs.same.+same_value.Goals as goal
 

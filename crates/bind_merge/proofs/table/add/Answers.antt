@@ -1,5 +1,4 @@
-use Rattle.std.proofs.Common.{◌≡◌, ◌<◌, ◌++◌, ◌∙◌, sym, ap, subst, List, [], ◌∷◌, length, arith}
-use Rattle.bind_merge.specs.Levels.{LevelTable}
+use Rattle.std.proofs.Common.{◌≡◌, ◌++◌, sym, subst, [], ◌∷◌, length, arith}
 use Rattle.bind_merge.specs.Joining.{JoinsLevel, ClashOf}
 use Rattle.bind_merge.specs.Adding.{AddsAt}
 use Rattle.bind_merge.proofs.LevelClashes.{adds-end, adds-onto, clash-at}

@@ -1,4 +1,4 @@
-use Rattle.std.proofs.Common.{◌≡◌, true, false, subst, [], length, drop, arith}
+use Rattle.std.proofs.Common.{◌≡◌, true, false, subst, [], drop, arith}
 use Rattle.std.proofs.lemmas.List.{drop_all}
 use Rattle.bind_merge.specs.Adding.{AddsAt, ClashAt, top_filter}
 use Rattle.bind_merge.specs.Filtering.{filters_of}

@@ -1,4 +1,4 @@
-use Rattle.std.proofs.Common.{◌≡◌, ◌≤◌, Bool, List, length, drop}
+use Rattle.std.proofs.Common.{◌≤◌, Bool, List, length, drop}
 use Rattle.bind_load.specs.RecordSeen.{filter_of}
 use Rattle.bind_merge.specs.Levels.{LevelTable}
 use Rattle.bind_merge.specs.Adding.{Comes}

@@ -1,5 +1,5 @@
-use Rattle.std.proofs.Common.{◌≡◌, ◌↔◌, IsTrue, ◌∙◌, ap, subst, List}
-use Rattle.bind_merge.specs.Levels.{EntryData, LevelTable}
+use Rattle.std.proofs.Common.{◌≡◌, ◌↔◌, IsTrue, ◌∙◌, ap, subst}
+use Rattle.bind_merge.specs.Levels.{LevelTable}
 use Rattle.bind_merge.specs.Joining.{AgreeOn, ClashIn}
 use Rattle.bind_merge.proofs.Disagreeing.{not-so}
 use Rattle.bind_merge.proofs.LevelClashes.{buses-clash, bus-clash, spaces-clash, props-clash}
