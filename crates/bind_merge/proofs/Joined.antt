@@ -66,7 +66,7 @@ pub gives-one : (a : EntryData) (s t : Setting) → kind s ≡ kind t → Gives 
 gives-one a s t e g h = some-is (sym g ∙ ap (λ k. setting_at k a) e ∙ h)
 
 -- where the values of one setting differ, the entries disagree
-differ-at : {A : Type 0} (c : A → Setting) → ((x y : A) → c x ≡ c y → x ≡ y) → (k : Kind) → ((x : A) → kind (c x) ≡ k)
+pub differ-at : {A : Type 0} (c : A → Setting) → ((x y : A) → c x ≡ c y → x ≡ y) → (k : Kind) → ((x : A) → kind (c x) ≡ k)
     → (a b : EntryData) (x y : Option A) → setting_at k a ≡ option_map c x → setting_at k b ≡ option_map c y → (AgreeOn x y → ⊥) → Disagree a b
 differ-at c inj k is a b None y ga gb h = absurd (h tt)
 differ-at c inj k is a b (Some x) None ga gb h = absurd (h tt)

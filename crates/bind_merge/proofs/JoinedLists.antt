@@ -48,13 +48,13 @@ joins-cases _ _ _ (together x xs y ys zs e a j) p s (inr h) =
 
 -- ---- the order
 
-before-trans : (a b c : List ℕ) → IsBefore a b → IsBefore b c → IsBefore a c
+pub before-trans : (a b c : List ℕ) → IsBefore a b → IsBefore b c → IsBefore a c
 before-trans a b c h k = nat_list_cmp_total.trans a b c h k
 
-from-greater : (a b : List ℕ) → slice_cmp nat_cmp a b ≡ Greater → IsBefore b a
+pub from-greater : (a b : List ℕ) → slice_cmp nat_cmp a b ≡ Greater → IsBefore b a
 from-greater a b e = nat_list_cmp_total.antisymm b a ∙ ap ordering_reverse e
 
-before-all : (a b : List ℕ) (es : List EntryData) → IsBefore a b → IsBeforeAll b es → IsBeforeAll a es
+pub before-all : (a b : List ℕ) (es : List EntryData) → IsBefore a b → IsBeforeAll b es → IsBeforeAll a es
 before-all a b [] h k = tt
 before-all a b (e ∷ es) h k = (before-trans a b e.name h k.0, before-all a b es h k.1)
 
@@ -78,7 +78,7 @@ joins-rise _ _ _ (together x xs y ys zs e a j) h k =
     (joins-before x.name xs ys zs j h.0 (subst (λ n. IsBeforeAll n ys) same k.0), joins-rise xs ys zs j h.1 k.1)
 
 -- a name that stands before all entries isn't among them
-before-itself : (a : List ℕ) → IsBefore a a → ⊥
+pub before-itself : (a : List ℕ) → IsBefore a a → ⊥
 before-itself a h =
     let e : Less ≡ Greater = sym h ∙ nat_list_cmp_total.antisymm a a ∙ ap ordering_reverse h in absurd cc
 

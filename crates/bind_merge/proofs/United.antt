@@ -43,12 +43,12 @@ own-says (k ∷ ls) (t ∷ ts) h zero l f e s = table-says (own_table k) t h.0 f
 own-says (k ∷ ls) (t ∷ ts) h (suc n) l f e s = own-says ls ts h.1 n l f e s
 
 -- the level of a record that says a fact
-record Spoken (ls : List LevelData) (n : ℕ) (f : Fact) : Type 0 where
-  level : LevelData
-  level_is : slice_get ls n ≡ Some level
-  says : Says (own_table level) f
+pub record Spoken (ls : List LevelData) (n : ℕ) (f : Fact) : Type 0 where
+  pub level : LevelData
+  pub level_is : slice_get ls n ≡ Some level
+  pub says : Says (own_table level) f
 
-says-own : (ls : List LevelData) (ts : List LevelTable) → AreTablesOf (map own_level ls) ts → (n : ℕ) (f : Fact) → SaysAt ts n f → Spoken ls n f
+pub says-own : (ls : List LevelData) (ts : List LevelTable) → AreTablesOf (map own_level ls) ts → (n : ℕ) (f : Fact) → SaysAt ts n f → Spoken ls n f
 says-own ls [] h n f s = absurd s
 says-own [] (t ∷ ts) h n f s = absurd h
 says-own (k ∷ ls) (t ∷ ts) h zero f s = record { level = k; level_is = refl; says = says-table (own_table k) t h.0 f s }

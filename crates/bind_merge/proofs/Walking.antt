@@ -160,7 +160,7 @@ pub clean-more : (d : ℕ) (files : List FileData) (k : ℕ) → is_clean files 
 clean-more zero files k e = record-weaker files (λ t. false) (is_clean files zero) (λ n f. absurd cc) (record_at files k) e
 clean-more (suc d) files k e = record-weaker files (is_clean files d) (is_clean files (suc d)) (clean-more d files) (record_at files k) e
 
-unclean-less : (d : ℕ) (files : List FileData) (k : ℕ) → is_clean files (suc d) k ≡ false → is_clean files d k ≡ false
+pub unclean-less : (d : ℕ) (files : List FileData) (k : ℕ) → is_clean files (suc d) k ≡ false → is_clean files d k ≡ false
 unclean-less d files k e = at (is_clean files d k) refl
   where
     at : (b : Bool) → is_clean files d k ≡ b → is_clean files d k ≡ false

@@ -19,8 +19,8 @@ filter_below (f ∷ fs) = fs
 -- a level comes to those that are there: behind the last, or joined with the one at its place
 pub data AddsAt : List LevelTable → ℕ → LevelTable → List LevelTable → Type 0 where
   behind : (l : LevelTable) → AddsAt [] 0 l (l ∷ [])
-  onto : (a : LevelTable) (rest : List LevelTable) (l j : LevelTable) → JoinsLevel a l j
-      → AddsAt (a ∷ rest) 0 l (j ∷ rest)
+  onto : (a : LevelTable) (rest : List LevelTable) (l j : LevelTable)
+      → JoinsLevel a l j → AddsAt (a ∷ rest) 0 l (j ∷ rest)
   below : (a : LevelTable) (rest : List LevelTable) (n : ℕ) (l : LevelTable) (js : List LevelTable)
       → AddsAt rest n l js → AddsAt (a ∷ rest) (suc n) l (a ∷ js)
 

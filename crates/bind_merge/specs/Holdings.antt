@@ -27,5 +27,5 @@ pub record SaysItself (files : List FileData) (k n : ℕ) (f : Fact) : Type 0 wh
 pub data Holds (files : List FileData) : ℕ → ℕ → Fact → Type 0 where
   itself : (k n : ℕ) (f : Fact) → SaysItself files k n f → Holds files k n f
   by_include : (k n : ℕ) (f : Fact) (m : ℕ) (i : IncludeData) (t : ℕ)
-      → Includes files k m i t → m ≤ n → lets (slice_get i.filter (n - m)) f ≡ true → Holds files t (n - m) f
-      → Holds files k n f
+      → Includes files k m i t → m ≤ n → lets (slice_get i.filter (n - m)) f ≡ true
+      → Holds files t (n - m) f → Holds files k n f

@@ -104,12 +104,16 @@ inherited e = record {
   cells = e.cells;
 }
 
--- what an include hands on of a level, by this level of its filter
+-- what an include hands on of the properties of a level, by this level of its filter
+abbrev pub passed_props : Option FilterLevel → List EntryData → List EntryData
+passed_props f es = map inherited (filter (λ (e : EntryData). level_lets e.name f) es)
+
+-- and of the level
 abbrev pub passed : Option FilterLevel → LevelTable → LevelTable
 passed f l = record {
   described = l.described;
   buses = l.buses;
   on_bus = l.on_bus;
   spaces = map inherited l.spaces;
-  props = map inherited (filter (λ (e : EntryData). level_lets e.name f) l.props);
+  props = passed_props f l.props;
 }

@@ -23,9 +23,8 @@ WalksOnce = (d : ℕ) (files : List FileData) (k : ℕ) → (is_clean files d k 
 -- So a file that is met again, where it fits in the depth that is left, is without fault whatever the
 -- way on which one came, no file of which fits.
 abbrev pub MetAgain : Type 0
-MetAgain =
-    (d : ℕ) (files : List FileData) (path : List ℕ) (k : ℕ) → is_clean files d k ≡ true → NoneClean files d path
-    → walk d files path k ≡ None
+MetAgain = (d : ℕ) (files : List FileData) (path : List ℕ) (k : ℕ)
+    → is_clean files d k ≡ true → NoneClean files d path → walk d files path k ≡ None
 
 -- The levels of a file's own record with the merged levels of the files that it includes, each taken
 -- once and in order, are its merged binding, and neither it nor what it includes is in conflict.

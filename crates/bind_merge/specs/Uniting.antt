@@ -6,8 +6,8 @@ use Rattle.bind_merge.specs.Levels.{LevelTable}
 use Rattle.bind_merge.specs.Adding.{AddsFrom}
 
 -- `tables` has the merged levels of the included files
-pub data Unites (files : List FileData) (tables : ℕ → Option (List LevelTable)) : List LevelTable
-    → List (ℕ × IncludeData) → List LevelTable → Type 0 where
+pub data Unites (files : List FileData) (tables : ℕ → Option (List LevelTable))
+    : List LevelTable → List (ℕ × IncludeData) → List LevelTable → Type 0 where
   all_in : (ts : List LevelTable) → Unites files tables ts [] ts
   next_in : (ts : List LevelTable) (e : ℕ × IncludeData) (es : List (ℕ × IncludeData)) (t : ℕ)
       (included united all : List LevelTable)

@@ -26,16 +26,23 @@ abbrev pub follow : (ℕ → Option Fault) → List ℕ → Option Fault
 follow rest [] = None
 follow rest (t ∷ ts) = rest t
 
+-- several files have an include's base name; it is barred; the fault that follows it
+abbrev pub is_double : List FileData → ℕ × IncludeData → Bool
+is_double files e = is_several (named_files files e.1.name)
+
+abbrev pub is_closed : List FileData → Bool → List ℕ → ℕ × IncludeData → Bool
+is_closed files deep path e = is_barred deep path (named_files files e.1.name)
+
+abbrev pub fault_below : List FileData → (ℕ → Option Fault) → ℕ × IncludeData → Option Fault
+fault_below files rest e = follow rest (named_files files e.1.name)
+
 -- the faults of a file with this record: B14 over all its includes, B9 over all its includes, then
 -- those of the includes, each in order; `path` are the files through which one came here, itself first
 abbrev pub record_walk : List FileData → Bool → (ℕ → Option Fault) → List ℕ → List ℕ → List LevelData → Option Fault
 record_walk files deep rest path name levels =
-    let includes = includes_from 0 levels in
-    or_else (fault_if (list_any (λ (e : ℕ × IncludeData). is_several (named_files files e.1.name)) includes)
-    (file_fault rule.B14 name))
-    (or_else (fault_if (list_any (λ (e : ℕ × IncludeData). is_barred deep path (named_files files e.1.name)) includes)
-    (file_fault rule.B9 name))
-    (first_some (λ (e : ℕ × IncludeData). follow rest (named_files files e.1.name)) includes))
+    or_else (fault_if (list_any (is_double files) (includes_from 0 levels)) (file_fault rule.B14 name))
+    (or_else (fault_if (list_any (is_closed files deep path) (includes_from 0 levels)) (file_fault rule.B9 name))
+    (first_some (fault_below files rest) (includes_from 0 levels)))
 
 abbrev pub file_walk : List FileData → Bool → (ℕ → Option Fault) → List ℕ → List ℕ
     → Option (Result (List LevelData) Fault) → Option Fault

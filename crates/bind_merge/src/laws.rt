@@ -1,6 +1,8 @@
 //! The laws on which resolving each file once rests.
 
 ghost use Rattle.bind_merge.specs.Laws.{MergesOnce, MetAgain, WalksOnce};
+ghost use Rattle.bind_merge.specs.Showing.{ViewsShow};
+ghost use Rattle.bind_merge.specs.Telling.{ViewsTell};
 
 /// A walk over a file and its includes, at most d of them below one another, meets no fault exactly
 /// where the file is without fault within the depth d: where its record is good and each include
@@ -25,4 +27,19 @@ pub fn met_again()
 /// conflict.
 pub fn merges_once()
     ensures { MergesOnce }
+{}
+
+/// What a view tells of merged levels is what they say, fact by fact: each setting of a property or
+/// a space, the buses and the bus, and below them what the view of the child-binding tells.
+#[tactic(auto, using(crate::proofs::Telling::views_tell))]
+pub fn views_tell()
+    ensures { ViewsTell }
+{}
+
+/// What the views of a file's merged binding show, at each child-binding step, is what the file
+/// holds there along its includes, filters and child-bindings: the names of the properties, their
+/// settings, whether one is required, the cells of a space, the buses and the bus, and whether
+/// there is a child.
+pub fn views_show()
+    ensures { ViewsShow }
 {}

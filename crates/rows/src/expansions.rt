@@ -1,9 +1,9 @@
 //! Rows of `c_macro`.
 //!
-//! - `text` is a text. The answer has its lines after expansion, `_` before a token that white space
-//!   precedes and `|` after each line, and then the rule that it breaks, if any.
-//! - `before` and `locked` are directives, those of `before` applied before the names are locked. The
-//!   answer says of each directive of `locked` whether it is good.
+//! - `text` is a text. The answer has its lines after expansion, `_` before a token that white
+//!   space precedes and `|` after each line, and then the rule that it breaks, if any.
+//! - `before` and `locked` are directives, those of `before` applied before the names are locked.
+//!   The answer says of each directive of `locked` whether it is good.
 
 use crate::table::Row;
 use c_macro::{Defs, expand};

@@ -1,9 +1,10 @@
 //! Reads tables of rows, asks each layer what its rows ask, and says which answers are wrong.
 //!
-//! Each table of `data/` is of one layer, in the format that `table` reads. The first field of a row
-//! is what the layer is asked; `is` has the answer, or `starts` and `ends` its two ends.
+//! Each table of `data/` is of one layer, in the format that `table` reads. The first field of a
+//! row is what the layer is asked; `is` has the answer, or `starts` and `ends` its two ends.
 #![tactic(auto)]
 
+mod bindings;
 mod boards;
 mod c_lines;
 mod expansions;
@@ -33,6 +34,7 @@ enum Layer {
     DtsParse,
     YamlProfile,
     BindLoad,
+    BindMerge,
     PhaNexus,
     RegRanges,
     PropTypes,
@@ -42,12 +44,13 @@ enum Layer {
     EdtRun,
 }
 
-const LAYERS: [Layer; 12] = [
+const LAYERS: [Layer; 13] = [
     Layer::EdtBase,
     Layer::DtsLex,
     Layer::DtsParse,
     Layer::YamlProfile,
     Layer::BindLoad,
+    Layer::BindMerge,
     Layer::PhaNexus,
     Layer::RegRanges,
     Layer::PropTypes,
@@ -66,6 +69,7 @@ impl Layer {
             Layer::DtsParse => "dts_parse.rows",
             Layer::YamlProfile => "yaml_profile.rows",
             Layer::BindLoad => "bind_load.rows",
+            Layer::BindMerge => "bind_merge.rows",
             Layer::PhaNexus => "pha_nexus.rows",
             Layer::RegRanges => "reg_ranges.rows",
             Layer::PropTypes => "prop_types.rows",
@@ -84,6 +88,7 @@ impl Layer {
             Layer::DtsParse => scripts::answer(alloc, row),
             Layer::YamlProfile => yaml_values::answer(alloc, row),
             Layer::BindLoad => records::answer(alloc, row),
+            Layer::BindMerge => bindings::answer(alloc, row),
             Layer::PhaNexus => specifiers::answer(alloc, row),
             Layer::RegRanges => registers::answer(alloc, row),
             Layer::PropTypes => properties::answer(alloc, row),

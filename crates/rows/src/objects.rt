@@ -1,14 +1,14 @@
 //! Rows of `edt_base`: files, sinks and places of faults.
 //!
-//! - `calls` has calls of files in memory, one a line: `list` or `read`, a name, and how many names or
-//!   bytes it takes at most. `held` names the files, one a line; each holds its own name. `failing` has
-//!   the numbers of the calls that fail; with `good` none fails. The answer has what each call gives:
-//!   `-` where it fails, `+` where there is too much.
+//! - `calls` has calls of files in memory, one a line: `list` or `read`, a name, and how many names
+//!   or bytes it takes at most. `held` names the files, one a line; each holds its own name.
+//!   `failing` has the numbers of the calls that fail; with `good` none fails. The answer has what
+//!   each call gives: `-` where it fails, `+` where there is too much.
 //! - `pieces` has the texts that a sink in memory is given, one a line. `room` is how many bytes it
 //!   has room for, `most` how many it takes at a write, and `failing` has the numbers of the writes
 //!   that fail. The answer has for each piece whether it was taken, and what the sink then holds.
-//! - `place` is the place of a fault: `byte`, `line`, `file` or `node`, a name, and a number where it
-//!   has one. The answer is the fault of rule S1 there, as it is told.
+//! - `place` is the place of a fault: `byte`, `line`, `file` or `node`, a name, and a number where
+//!   it has one. The answer is the fault of rule S1 there, as it is told.
 
 use crate::table::{Row, numbers_of, text_of};
 use edt_base::{

@@ -1,9 +1,11 @@
-//! Rows of `prop_types`: `board` is a source, `node` the path of a node of it, and `binding` has the
-//! lines of the binding file that is the node's, where it has one, its properties in byte order.
+//! Rows of `prop_types`: `board` is a source, `node` the path of a node of it, and `binding` has
+//! the lines of the binding file that is the node's, where it has one, its properties in byte
+//! order.
 //!
 //! The answer has the node's typed properties, each `NAME=VALUE` with a blank after it, or the rule
 //! that it breaks: numbers in decimal, several in `{ }`, bytes in `[ ]`, texts in quotes, nodes as
-//! their paths behind `&`; behind a value `#` and the place in `enum` with the form of each tested one.
+//! their paths behind `&`; behind a value `#` and the place in `enum` with the form of each tested
+//! one.
 
 ghost use Rattle.std.specs.Prelude.{◌<◌, length};
 

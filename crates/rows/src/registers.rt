@@ -1,9 +1,9 @@
 //! Rows of `reg_ranges`, on trees of three nodes, each in the one before it: `/`, `/b` and `/b/e`.
 //!
 //! `top`, `middle` and `low` have the properties of these: `a=1,2` of cells, `a:x,y` of strings and
-//! `a*xy` of the bytes of a text, with blanks between them. `registers` or `ranges` is the number of a
-//! node, from 0: the answer has its registers or its ranges, or the rule that it breaks. `address` is
-//! one of `/b/e`: the answer is the address as the root sees it.
+//! `a*xy` of the bytes of a text, with blanks between them. `registers` or `ranges` is the number
+//! of a node, from 0: the answer has its registers or its ranges, or the rule that it breaks.
+//! `address` is one of `/b/e`: the answer is the address as the root sees it.
 
 ghost use Rattle.std.specs.Prelude.{◌<◌, IfSome, length};
 

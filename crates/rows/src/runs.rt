@@ -1,11 +1,12 @@
-//! Rows of `edt_run`: `words` has the words of a command line, one a line, `source` the source `b.dts`
-//! and `overlay`, where it is there, the source `o.dts`; there is no other file.
+//! Rows of `edt_run`: `words` has the words of a command line, one a line, `source` the source
+//! `b.dts` and `overlay`, where it is there, the source `o.dts`; there is no other file.
 //!
-//! `calls` has the numbers of the calls of the files that fail, `writes` those of the output's writes
-//! that fail; `room` is how many bytes the output has room for, `most` how many it takes at a write,
-//! and `note_room` how many the note has room for. The answer has the exit status, then the note, then
-//! the output. With `each_room` each smaller room is tried too, and the answer ends with the first one
-//! at which the run doesn't end with status 4 and as much of the output as there is room for.
+//! `calls` has the numbers of the calls of the files that fail, `writes` those of the output's
+//! writes that fail; `room` is how many bytes the output has room for, `most` how many it takes at
+//! a write, and `note_room` how many the note has room for. The answer has the exit status, then
+//! the note, then the output. With `each_room` each smaller room is tried too, and the answer ends
+//! with the first one at which the run doesn't end with status 4 and as much of the output as there
+//! is room for.
 
 use crate::table::{Row, numbers_of, text_of};
 use edt_base::{Bytes, MemFiles, MemSink, Text, Words};

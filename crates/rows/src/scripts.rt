@@ -1,12 +1,12 @@
 //! Rows of `dts_parse`.
 //!
-//! - `base` or `overlay` is a source. The answer has its statements: O a node's opening, C its close,
-//!   L a label, A a property with its value, P and D deletions, X a mark, each with its byte; or the
-//!   rule that it breaks, with its byte.
-//! - `cut` is a base. The answer has the lengths at which the source can be cut without a token being
-//!   missed.
-//! - `tree` is an expression, operators after their operands, and `cell` is the same one as it stands
-//!   in a cell. The answer is what each is worth.
+//! - `base` or `overlay` is a source. The answer has its statements: O a node's opening, C its
+//!   close, L a label, A a property with its value, P and D deletions, X a mark, each with its
+//!   byte; or the rule that it breaks, with its byte.
+//! - `cut` is a base. The answer has the lengths at which the source can be cut without a token
+//!   being missed.
+//! - `tree` is an expression, operators after their operands, and `cell` is the same one as it
+//!   stands in a cell. The answer is what each is worth.
 
 use crate::table::Row;
 use dts_parse::{Act, BinOp, Expr, RawCell, RawPart, Stmt, Target, UnOp, eval, parse};

@@ -2,8 +2,8 @@
 //!
 //! The answer has each token's kind, first byte and the byte after its last, then `!` and the byte
 //! where no token stands. The kinds are `n` for names, `1` for numbers, `c` and `s` for characters
-//! and string literals, `r` and `p` for references by label and by path, `d` for directives, `x` for
-//! pairs of digits and `.` for punctuators.
+//! and string literals, `r` and `p` for references by label and by path, `d` for directives, `x`
+//! for pairs of digits and `.` for punctuators.
 
 use crate::table::Row;
 use dts_lex::{LexFault, Lexer, Span, SpanKind};

@@ -1,8 +1,9 @@
 //! Rows of `pha_nexus`: `board` is a source, and `follow` the path of a node of it, at which a
-//! specifier of the space `space` with the cells `cells`, numbers with blanks between them, arrives.
+//! specifier of the space `space` with the cells `cells`, numbers with blanks between them,
+//! arrives.
 //!
-//! The answer is the path of the node at which the specifier ends, and its cells, or the fault, which
-//! is told at the root.
+//! The answer is the path of the node at which the specifier ends, and its cells, or the fault,
+//! which is told at the root.
 
 use crate::boards::{node_at, tree_of};
 use crate::table::{Row, numbers_of};

@@ -3,13 +3,14 @@
 //! A table is text. A line that begins with `#` is a comment, and an empty line ends a row. Every
 //! other line gives a field of its row some text:
 //!
-//! - `NAME: TEXT` puts a line of text into the field, behind a newline if the field has text already;
+//! - `NAME: TEXT` puts a line of text into the field, behind a newline if the field has text
+//!   already;
 //! - `NAME+ TEXT` goes on in the same line;
 //! - `NAME*COUNT TEXT` goes on with so many copies of the text.
 //!
-//! In a text `\n`, `\r`, `\t`, `\s`, `\\` and `\xHH` stand for a newline, a carriage return, a tab, a
-//! space, a backslash and any byte; in copies `\i` stands for the number of the copy, counted from 0,
-//! and `\j` for the next number.
+//! In a text `\n`, `\r`, `\t`, `\s`, `\\` and `\xHH` stand for a newline, a carriage return, a tab,
+//! a space, a backslash and any byte; in copies `\i` stands for the number of the copy, counted
+//! from 0, and `\j` for the next number.
 
 use std::alloc::{AllocError, Global};
 

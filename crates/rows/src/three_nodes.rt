@@ -1,10 +1,12 @@
 //! Trees of three nodes, each in the one before it, made by hand.
 
-ghost use Rattle.std.specs.Prelude.{◌≡◌, ◌<◌, [], ◌∷◌, true, false, Some, None, IfOk, IsOk, codes, length};
+ghost use Rattle.std.specs.Prelude.{◌≡◌, ◌<◌, [], ◌∷◌, true, false, Some, None, IfOk, IsOk, codes};
+ghost use Rattle.std.specs.Prelude.{length};
 ghost use Rattle.edt_base.specs.TreeData.{EndsWithZero, ancestors};
 ghost use Rattle.reg_ranges.specs.Ranges.{ranges_of};
 ghost use Rattle.reg_ranges.specs.Translation.{AreWhole};
-ghost use Rattle.rows.specs.ThreeNodes.{node_of, top_of, middle_of, low_of, IsPlainPart, ArePlainParts, IsPlain, IsWellFormedAlone};
+ghost use Rattle.rows.specs.ThreeNodes.{node_of, top_of, middle_of, low_of, IsPlainPart};
+ghost use Rattle.rows.specs.ThreeNodes.{ArePlainParts, IsPlain, IsWellFormedAlone};
 
 use edt_base::{Bytes, Kind, NodeId, NodeRec, Part, PropVal, Text, Tree};
 use indexmap::IndexMap;
@@ -216,7 +218,8 @@ fn nodes_of(
     middle: IndexMap<Text, PropVal>,
     low: IndexMap<Text, PropVal>,
 ) -> Result<Vec<NodeRec>, AllocError>
-    ensures { IfOk result (λ v. v.items ≡ top_of top.entries ∷ middle_of middle.entries ∷ low_of low.entries ∷ []) }
+    ensures { IfOk result (λ v. v.items ≡ top_of top.entries ∷ middle_of middle.entries
+        ∷ low_of low.entries ∷ []) }
 {
     let first = top_node(alloc, top)?;
     let second = middle_node(alloc, middle)?;
@@ -257,7 +260,8 @@ pub fn board(alloc: Global, top: &str, middle: &str, low: &str) -> Result<Tree, 
     tree_of(alloc, top, middle, low)
 }
 
-/// Whether the ranges of all nodes are without fault, so that addresses of `/b/e` can be translated.
+/// Whether the ranges of all nodes are without fault, so that addresses of `/b/e` can be
+/// translated.
 pub fn are_whole(alloc: Global, tree: &Tree) -> bool
     ensures { result ≡ true → AreWhole tree.now.nodes (ancestors tree.now.nodes 2) }
 {

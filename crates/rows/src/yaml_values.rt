@@ -1,7 +1,7 @@
 //! Rows of `yaml_profile`: `yaml` is a file.
 //!
-//! The answer is its value, maps in braces, lists in brackets and strings in quotes, or the rule that
-//! it breaks and the byte where.
+//! The answer is its value, maps in braces, lists in brackets and strings in quotes, or the rule
+//! that it breaks and the byte where.
 
 use crate::table::Row;
 use edt_base::{End, Place, Text, Yaml};

@@ -1,0 +1,12 @@
+pub mod Bringing
+pub mod Heights
+pub mod Indexing
+pub mod Items
+pub mod Loaded
+pub mod Naming
+pub mod Reading
+pub mod Resolving
+pub mod Spreading
+pub mod Steps
+pub mod Stringing
+pub mod Ways
