@@ -8,15 +8,18 @@ use Rattle.edt_base.specs.Outside.{FilesSeen, held_of}
 use Rattle.edt_run.specs.declared.asked.Cmd.{Cmd}
 use Rattle.edt_run.specs.declared.asked.Cmd.TheVariants as cmd
 use Rattle.edt_run.specs.declared.top.Status.TheVariants as status
-use Rattle.edt_run.specs.Answer.{Answer, Given, IsGiven, done, refusal, refused, fault_line, too_long, first_above, source_limit}
+use Rattle.edt_run.specs.Answer.{Answer, Given, IsGiven, done, refusal, refused, refused_behind, fault_line, first_past}
+use Rattle.edt_run.specs.ExpandAnswer.{Breach, breach_fault, ended, IsAnswerOver, nothing_known}
+use Rattle.c_macro.specs.Directive.{Known}
 use Rattle.edt_run.specs.Header.{header}
 use Rattle.edt_run.specs.Job.{JobData}
-use Rattle.edt_run.specs.Promises.{IsAnswer, IsAnswerOf, IsAnswerFrom, is_plain}
+use Rattle.edt_run.specs.Promises.{IsAnswer, IsAnswerOf, IsAnswerFrom, is_early, is_plain, writes_early}
 use Rattle.edt_run.specs.SmallAnswer.{IsSmallAnswer}
 use Rattle.edt_run.specs.TreeAnswer.{IsTreeAnswer, over_tree, print_limit}
 use Rattle.edt_base.specs.TreeData.{TreeData}
 use Rattle.dts_tree.specs.Outcome.{outcome}
 use Rattle.dts_print.specs.Printed.{printed}
+use Rattle.edt_run.proofs.ExpandLaws.{over_one}
 use Rattle.edt_run.proofs.TreeAnswerLaws.{one_tree_answer}
 use Rattle.dts_parse.proofs.Whole.{one_script}
 use Rattle.edt_run.proofs.SmallLaws.{one_tree}
@@ -34,16 +37,17 @@ one_of cmd.Gen (name ∷ names) (source ∷ sources) a b h k = small_one name so
 one_of cmd.Gen [] sources a b h k = absurd h
 one_of cmd.Gen (name ∷ names) [] a b h k = absurd h
 one_of cmd.Dts names sources a b h k = one_tree_answer one_script names sources a b h k
+one_of cmd.Expand names sources a b h k = over_one nothing_known names sources a b h k
 
-one_to : (o : Option (List ℕ)) (c : Cmd) (names sources : List (List ℕ)) (a b : Answer)
-    → MatchOption o (IsAnswerOf c names sources a) (λ name. a ≡ refused (too_long name))
-    → MatchOption o (IsAnswerOf c names sources b) (λ name. b ≡ refused (too_long name)) → a ≡ b
+one_to : (o : Option Fault) (c : Cmd) (names sources : List (List ℕ)) (a b : Answer)
+    → MatchOption o (IsAnswerOf c names sources a) (λ fault. a ≡ refused fault)
+    → MatchOption o (IsAnswerOf c names sources b) (λ fault. b ≡ refused fault) → a ≡ b
 one_to None c names sources a b h k = one_of c names sources a b h k
-one_to (Some name) c names sources a b h k = h ∙ sym k
+one_to (Some fault) c names sources a b h k = h ∙ sym k
 
 pub one_answer : (job : Option JobData) (given : Given) (a b : Answer) → IsAnswer job given a → IsAnswer job given b → a ≡ b
 one_answer None given a b h k = h ∙ sym k
-one_answer (Some job) given a b h k = one_to (first_above source_limit job.names given.sources) job.cmd job.names given.sources a b h k
+one_answer (Some job) given a b h k = one_to (first_past job.cmd job.names given.sources) job.cmd job.names given.sources a b h k
 
 -- where the files tell what they hold, what was read is known, and so is the answer
 same_given : (held : List (List ℕ × List ℕ)) (job : Option JobData) (g h : Given) → IsGiven (Some held) job g → IsGiven (Some held) job h → g ≡ h
@@ -59,58 +63,79 @@ one_from files held tells job a b h k =
 
 -- ---- what an answer is like
 
-pub record IsProper (answer : Answer) : Type 0 where
+-- a command that doesn't write early writes nothing where it refuses
+pub record IsProper (early : Bool) (answer : Answer) : Type 0 where
   pub plain : IsTrue (is_plain answer.status)
   pub used : answer.status ≡ status.Usage → ⊥
-  pub quiet : (answer.status ≡ status.Done → ⊥) → answer.text ≡ []
+  pub quiet : early ≡ false → (answer.status ≡ status.Done → ⊥) → answer.text ≡ []
 
-proper_done : (text : List ℕ) → IsProper (done text)
-proper_done text = record { plain = refl; used = λ e. cc; quiet = λ isnt. absurd (isnt refl) }
+proper_done : (early : Bool) (text : List ℕ) → IsProper early (done text)
+proper_done early text = record { plain = refl; used = λ e. cc; quiet = λ not isnt. absurd (isnt refl) }
 
-proper_status : (b : Bool) (line : List ℕ) → IsProper (refusal (if b then status.Limit else status.Rule) line)
-proper_status true line = record { plain = refl; used = λ e. cc; quiet = λ isnt. refl }
-proper_status false line = record { plain = refl; used = λ e. cc; quiet = λ isnt. refl }
+proper_status : (early b : Bool) (line : List ℕ) → IsProper early (refusal (if b then status.Limit else status.Rule) line)
+proper_status early true line = record { plain = refl; used = λ e. cc; quiet = λ not isnt. refl }
+proper_status early false line = record { plain = refl; used = λ e. cc; quiet = λ not isnt. refl }
 
-proper_refused : (fault : Fault) → IsProper (refused fault)
-proper_refused fault = proper_status (is_limit fault.rule) (fault_line fault)
+proper_refused : (early : Bool) (fault : Fault) → IsProper early (refused fault)
+proper_refused early fault = proper_status early (is_limit fault.rule) (fault_line fault)
 
-small_proper : (name source : List ℕ) (a : Answer) → IsSmallAnswer name source a → IsProper a
-small_proper name source a (inl h) = subst IsProper (sym h.2) (proper_done (header h.0))
-small_proper name source a (inr h) = subst IsProper (sym h.1) (proper_refused (record { rule = rule.S6; place = place.Byte name 0 }))
+small_proper : (name source : List ℕ) (a : Answer) → IsSmallAnswer name source a → IsProper false a
+small_proper name source a (inl h) = subst (IsProper false) (sym h.2) (proper_done false (header h.0))
+small_proper name source a (inr h) = subst (IsProper false) (sym h.1) (proper_refused false (record { rule = rule.S6; place = place.Byte name 0 }))
 
-over_proper : (result : Result TreeData Fault) → IsProper (over_tree result)
+over_proper : (result : Result TreeData Fault) → IsProper false (over_tree result)
 over_proper (Ok tree) = printed_or (nat_lt print_limit (length (printed tree)))
   where
-    printed_or : (b : Bool) → IsProper (if b then refused (record { rule = rule.L10; place = place.Node (codes "/") }) else done (printed tree))
-    printed_or true = proper_refused (record { rule = rule.L10; place = place.Node (codes "/") })
-    printed_or false = proper_done (printed tree)
-over_proper (Err fault) = proper_refused fault
+    printed_or : (b : Bool) → IsProper false (if b then refused (record { rule = rule.L10; place = place.Node (codes "/") }) else done (printed tree))
+    printed_or true = proper_refused false (record { rule = rule.L10; place = place.Node (codes "/") })
+    printed_or false = proper_done false (printed tree)
+over_proper (Err fault) = proper_refused false fault
 
-tree_proper : (names sources : List (List ℕ)) (a : Answer) → IsTreeAnswer names sources a → IsProper a
-tree_proper names sources a (inl h) = subst IsProper (sym h.2) (proper_refused h.0)
-tree_proper names sources a (inr h) = subst IsProper (sym h.2) (over_proper (outcome names h.0))
+tree_proper : (names sources : List (List ℕ)) (a : Answer) → IsTreeAnswer names sources a → IsProper false a
+tree_proper names sources a (inl h) = subst (IsProper false) (sym h.2) (proper_refused false h.0)
+tree_proper names sources a (inr h) = subst (IsProper false) (sym h.2) (over_proper (outcome names h.0))
 
-of_proper : (c : Cmd) (names sources : List (List ℕ)) (a : Answer) → IsAnswerOf c names sources a → IsProper a
+-- an answer that has some output before its breach
+proper_behind : (b : Bool) (text line : List ℕ) → IsProper true (record { status = if b then status.Limit else status.Rule; text = text; line = line })
+proper_behind true text line = record { plain = refl; used = λ e. cc; quiet = λ not. cc }
+proper_behind false text line = record { plain = refl; used = λ e. cc; quiet = λ not. cc }
+
+pub ended_proper : (name text : List ℕ) (b : Option Breach) → IsProper true (ended name text b)
+ended_proper name text None = proper_done true text
+ended_proper name text (Some breach) = proper_behind (is_limit breach.rule) text (fault_line (breach_fault name breach))
+
+expand_proper : (names sources : List (List ℕ)) (k : Known) (a : Answer) → IsAnswerOver k names sources a → IsProper true a
+expand_proper (name ∷ []) (source ∷ []) k a h = subst (IsProper true) (sym h.3) (ended_proper name h.0 h.1)
+expand_proper (name ∷ n ∷ names) (source ∷ s ∷ sources) k a (inl h) = expand_proper (n ∷ names) (s ∷ sources) h.0 a h.2
+expand_proper (name ∷ n ∷ names) (source ∷ s ∷ sources) k a (inr h) = subst (IsProper true) (sym h.2) (proper_refused true (breach_fault name h.0))
+expand_proper [] sources k a h = absurd h
+expand_proper (name ∷ []) [] k a h = absurd h
+expand_proper (name ∷ []) (source ∷ s ∷ sources) k a h = absurd h
+expand_proper (name ∷ n ∷ names) [] k a h = absurd h
+expand_proper (name ∷ n ∷ names) (source ∷ []) k a h = absurd h
+
+of_proper : (c : Cmd) (names sources : List (List ℕ)) (a : Answer) → IsAnswerOf c names sources a → IsProper (is_early c) a
 of_proper cmd.Gen (name ∷ names) (source ∷ sources) a h = small_proper name source a h
 of_proper cmd.Gen [] sources a h = absurd h
 of_proper cmd.Gen (name ∷ names) [] a h = absurd h
 of_proper cmd.Dts names sources a h = tree_proper names sources a h
+of_proper cmd.Expand names sources a h = expand_proper names sources nothing_known a h
 
-to_proper : (o : Option (List ℕ)) (c : Cmd) (names sources : List (List ℕ)) (a : Answer)
-    → MatchOption o (IsAnswerOf c names sources a) (λ name. a ≡ refused (too_long name)) → IsProper a
+to_proper : (o : Option Fault) (c : Cmd) (names sources : List (List ℕ)) (a : Answer)
+    → MatchOption o (IsAnswerOf c names sources a) (λ fault. a ≡ refused fault) → IsProper (is_early c) a
 to_proper None c names sources a h = of_proper c names sources a h
-to_proper (Some name) c names sources a h = subst IsProper (sym h) (proper_refused (too_long name))
+to_proper (Some fault) c names sources a h = subst (IsProper (is_early c)) (sym h) (proper_refused (is_early c) fault)
 
-pub job_proper : (job : JobData) (given : Given) (a : Answer) → IsAnswer (Some job) given a → IsProper a
-job_proper job given a h = to_proper (first_above source_limit job.names given.sources) job.cmd job.names given.sources a h
+pub job_proper : (job : JobData) (given : Given) (a : Answer) → IsAnswer (Some job) given a → IsProper (is_early job.cmd) a
+job_proper job given a h = to_proper (first_past job.cmd job.names given.sources) job.cmd job.names given.sources a h
 
 pub answer_plain : (job : Option JobData) (given : Given) (a : Answer) → IsAnswer job given a → IsTrue (is_plain a.status)
 answer_plain None given a h = ap (λ (x : Answer). is_plain x.status) h
 answer_plain (Some job) given a h = (job_proper job given a h).plain
 
-pub answer_quiet : (job : Option JobData) (given : Given) (a : Answer) → IsAnswer job given a → (a.status ≡ status.Done → ⊥) → a.text ≡ []
-answer_quiet None given a h isnt = ap (λ (x : Answer). x.text) h
-answer_quiet (Some job) given a h isnt = (job_proper job given a h).quiet isnt
+pub answer_quiet : (job : Option JobData) (given : Given) (a : Answer) → IsAnswer job given a → writes_early job ≡ false → (a.status ≡ status.Done → ⊥) → a.text ≡ []
+answer_quiet None given a h not isnt = ap (λ (x : Answer). x.text) h
+answer_quiet (Some job) given a h not isnt = (job_proper job given a h).quiet not isnt
 
 pub answer_used : (job : Option JobData) (given : Given) (a : Answer) → IsAnswer job given a → a.status ≡ status.Usage → job ≡ None
 answer_used None given a h is = refl

@@ -1,5 +1,7 @@
 pub mod AnswerLaws
 pub mod ApartLaws
+pub mod ExpandLaws
+pub mod ExpandPuts
 pub mod Forests
 pub mod Headers
 pub mod NestingLaws

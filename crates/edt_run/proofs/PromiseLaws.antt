@@ -1,5 +1,5 @@
 -- The steps of a run keep its promises.
-use Rattle.std.proofs.Common.{◌≡◌, ◌-◌, ◌^◌, ◌<◌, ◌≤◌, ◌++◌, ◌∙◌, ◌⊎◌, ℕ, List, [], ◌∷◌, Option, Some, None, IfSome, IsTrue, length, refl, sym, ap, subst, true, false, Bool, if◌then◌else◌, inl, inr, arith}
+use Rattle.std.proofs.Common.{◌≡◌, ◌+◌, ◌-◌, ◌^◌, ◌<◌, ◌≤◌, ◌++◌, ◌∙◌, ◌⊎◌, ℕ, List, [], ◌∷◌, Option, Some, None, IfSome, IsTrue, length, refl, sym, ap, subst, append_assoc, length-append, true, false, Bool, if◌then◌else◌, inl, inr, arith}
 use Rattle.std.proofs.lemmas.List.{append-nil}
 use Rattle.edt_base.specs.declared.outside.Call.{Call}
 use Rattle.edt_base.specs.Outside.{FilesSeen, SinkSeen, Rose, Gains, GainsPrefix, IsSure, Wrote, held_of}
@@ -7,23 +7,23 @@ use Rattle.edt_run.specs.declared.top.Status.{Status}
 use Rattle.edt_run.specs.declared.top.Status.TheVariants as status
 use Rattle.edt_run.specs.Answer.{Answer, usage_line, write_line, memory_line, read_line}
 use Rattle.edt_run.specs.Job.{JobData, job_of}
-use Rattle.edt_run.specs.Promises.{Run, KeepsPromises, NothingRose, IsAnswer, IsAnswerIn, IsAnswerFrom, IsReadOf, IsReadLine, ReadFailed, HasCause, KeepsFiles, EndsWithAnswer, is_plain}
-use Rattle.edt_run.specs.Steps.{IsWantedAs, Ran}
+use Rattle.edt_run.specs.Promises.{Run, KeepsPromises, NothingRose, IsAnswer, IsAnswerIn, IsAnswerFrom, IsReadOf, IsReadLine, ReadFailed, HasCause, KeepsFiles, EndsWithAnswer, is_plain, writes_early}
+use Rattle.edt_run.specs.Steps.{IsCutShort, IsWantedAs, Ran}
 use Rattle.edt_run.proofs.AnswerLaws.{one_from, answer_quiet, answer_used}
 
 -- ---- what is wanted
 
--- a call failed or memory was wanted, and no text is
-abbrev IsStop : FilesSeen → FilesSeen → Option JobData → Status → Answer → Type 0
+-- a call failed and no text is wanted, or memory was wanted and a text may be cut short
+abbrev pub IsStop : FilesSeen → FilesSeen → Option JobData → Status → Answer → Type 0
 IsStop old new job status.Read wanted = (wanted.text ≡ []) × IsReadLine old new job wanted.line
-IsStop old new job status.Memory wanted = (wanted.text ≡ []) × (wanted.line ≡ memory_line)
+IsStop old new job status.Memory wanted = IsCutShort old job wanted.text × (wanted.line ≡ memory_line)
 IsStop old new job _ wanted = ⊥
 
 -- what is wanted is the job's answer, or the run stopped
-abbrev IsEither : FilesSeen → FilesSeen → Option JobData → Status → Answer → Type 0
+abbrev pub IsEither : FilesSeen → FilesSeen → Option JobData → Status → Answer → Type 0
 IsEither old new job said wanted = IsAnswerFrom old job wanted ⊎ IsStop old new job said wanted
 
-either : (old new : FilesSeen) (job : Option JobData) (said : Status) (wanted : Answer) → IsWantedAs old new job said wanted → IsEither old new job said wanted
+pub either : (old new : FilesSeen) (job : Option JobData) (said : Status) (wanted : Answer) → IsWantedAs old new job said wanted → IsEither old new job said wanted
 either old new job status.Read wanted h = inr h
 either old new job status.Memory wanted h = inr h
 either old new job status.Write wanted h = absurd h
@@ -32,10 +32,28 @@ either old new job status.Rule wanted h = inl h
 either old new job status.Usage wanted h = inl h
 either old new job status.Limit wanted h = inl h
 
-stop_text : (old new : FilesSeen) (job : Option JobData) (said : Status) (wanted : Answer) → IsStop old new job said wanted → wanted.text ≡ []
-stop_text old new job status.Read wanted h = h.0
-stop_text old new job status.Memory wanted h = h.0
-stop_text old new job _ wanted h = absurd h
+stop_cut : (old new : FilesSeen) (job : Option JobData) (said : Status) (wanted : Answer) → IsStop old new job said wanted → IsCutShort old job wanted.text
+stop_cut old new job status.Read wanted h = inl h.0
+stop_cut old new job status.Memory wanted h = h.0
+stop_cut old new job _ wanted h = absurd h
+
+-- only a command that writes early has a text that is cut short
+cut_text : (old : FilesSeen) (job : Option JobData) (text : List ℕ) → writes_early job ≡ false → IsCutShort old job text → text ≡ []
+cut_text old job text not (inl none) = none
+cut_text old job text not (inr h) = let e : false ≡ true = sym not ∙ h.2 in cc
+
+stop_text : (old new : FilesSeen) (job : Option JobData) (said : Status) (wanted : Answer) → writes_early job ≡ false → IsStop old new job said wanted → wanted.text ≡ []
+stop_text old new job said wanted not h = cut_text old job wanted.text not (stop_cut old new job said wanted h)
+
+-- a text that is cut short is a front of the answer's
+abbrev IsFront : List ℕ → List ℕ → Type 0
+IsFront text whole = (rest : List ℕ) × (whole ≡ text ++ rest)
+
+cut_front : (old : FilesSeen) (held : List (List ℕ × List ℕ)) → held_of old ≡ Some held → (job : Option JobData) (text : List ℕ) (answer : Answer) → IsAnswerFrom old job answer
+    → IsCutShort old job text → IsFront text answer.text
+cut_front old held tells job text answer is (inl none) = (answer.text, ap (λ t. t ++ answer.text) (sym none))
+cut_front old held tells job text answer is (inr h) =
+    (h.1, ap (λ (a : Answer). a.text) (one_from old held tells job answer h.0 is h.3) ∙ h.4)
 
 plain_stop : (old new : FilesSeen) (job : Option JobData) (said : Status) (wanted : Answer) → IsTrue (is_plain said) → IsStop old new job said wanted → ⊥
 plain_stop old new job status.Read wanted p h = cc
@@ -43,7 +61,7 @@ plain_stop old new job status.Memory wanted p h = cc
 plain_stop old new job _ wanted p h = h
 
 -- a plain status is that of the job's answer
-plain_answer : (old new : FilesSeen) (job : Option JobData) (said : Status) (wanted : Answer) → IsTrue (is_plain said) → IsEither old new job said wanted → IsAnswerFrom old job wanted
+pub plain_answer : (old new : FilesSeen) (job : Option JobData) (said : Status) (wanted : Answer) → IsTrue (is_plain said) → IsEither old new job said wanted → IsAnswerFrom old job wanted
 plain_answer old new job said wanted p (inl h) = h
 plain_answer old new job said wanted p (inr h) = absurd (plain_stop old new job said wanted p h)
 
@@ -73,8 +91,10 @@ gained_nothing : (old new : SinkSeen) (text : List ℕ) → text ≡ [] → Gain
 gained_nothing old new text none gained =
     subst (λ t. Gains old new t) (nil_before gained.0 gained.1 (sym gained.2 ∙ none)) gained.3
 
-nothing_is_prefix : (old new : SinkSeen) (text : List ℕ) → Gains old new [] → GainsPrefix old new text
-nothing_is_prefix old new text gained = ([], text, refl, gained)
+-- a prefix of a front is one of the whole
+longer_prefix : (old new : SinkSeen) (text whole : List ℕ) → IsFront text whole → GainsPrefix old new text → GainsPrefix old new whole
+longer_prefix old new text whole front gained =
+    (gained.0, gained.1 ++ front.0, front.1 ∙ (ap (λ t. t ++ front.0) gained.2 ∙ append_assoc gained.0 gained.1 front.0), gained.3)
 
 longer_sure : (old new : SinkSeen) (m n : ℕ) → m ≤ n → IsSure old new m → IsSure old new n
 longer_sure old new m n le sure = record { faults = sure.faults; room = omega (arith, sure.room) }
@@ -135,22 +155,35 @@ keeps_answer r wanted e whole plain = (
 keeps_output : (r : Run) (wanted : Answer) → IsEither r.files_old r.files_new (job_of r.words) wanted.status wanted → GainsPrefix r.out_old r.out_new wanted.text
     → Gains r.out_old r.out_new [] ⊎ ((answer : Answer) × (IsAnswerIn r answer) × GainsPrefix r.out_old r.out_new answer.text)
 keeps_output r wanted (inl h) gained = inr (wanted, h, gained)
-keeps_output r wanted (inr h) gained = inl (gained_nothing r.out_old r.out_new wanted.text (stop_text r.files_old r.files_new (job_of r.words) wanted.status wanted h) gained)
+keeps_output r wanted (inr h) gained = by_cut (stop_cut r.files_old r.files_new (job_of r.words) wanted.status wanted h)
+  where
+    by_cut : IsCutShort r.files_old (job_of r.words) wanted.text
+        → Gains r.out_old r.out_new [] ⊎ ((answer : Answer) × (IsAnswerIn r answer) × GainsPrefix r.out_old r.out_new answer.text)
+    by_cut (inl none) = inl (gained_nothing r.out_old r.out_new wanted.text none gained)
+    by_cut (inr c) = inr (c.0, c.3, longer_prefix r.out_old r.out_new wanted.text c.0.text (c.1, c.4) gained)
+
+-- the run stopped on the way to an answer
+record Stopped (r : Run) (wanted answer : Answer) : Type 0 where
+  stop : IsStop r.files_old r.files_new (job_of r.words) wanted.status wanted
+  front : IsFront wanted.text answer.text
 
 -- where the files tell: what was wanted is the answer, or the run stopped
 against : (r : Run) (wanted answer : Answer) (held : List (List ℕ × List ℕ)) → held_of r.files_old ≡ Some held → IsEither r.files_old r.files_new (job_of r.words) wanted.status wanted
-    → IsAnswerIn r answer → (wanted ≡ answer) ⊎ IsStop r.files_old r.files_new (job_of r.words) wanted.status wanted
+    → IsAnswerIn r answer → (wanted ≡ answer) ⊎ Stopped r wanted answer
 against r wanted answer held tells (inl h) is = inl (one_from r.files_old held tells (job_of r.words) wanted answer h is)
-against r wanted answer held tells (inr h) is = inr h
+against r wanted answer held tells (inr h) is = inr (record {
+  stop = h;
+  front = cut_front r.files_old held tells (job_of r.words) wanted.text answer is (stop_cut r.files_old r.files_new (job_of r.words) wanted.status wanted h);
+})
 
 told : (o : Option (List (List ℕ × List ℕ))) (P : List (List ℕ × List ℕ) → Type 0) → ((held : List (List ℕ × List ℕ)) → o ≡ Some held → P held) → IfSome o P
 told None P f = tt
 told (Some held) P f = f held refl
 
 complete_either : (r : Run) (wanted answer : Answer) (written noted : Bool) → Steps r wanted written noted
-    → (wanted ≡ answer) ⊎ IsStop r.files_old r.files_new (job_of r.words) wanted.status wanted → NothingRose r → (r.status ≡ answer.status) ⊎ (r.status ≡ status.Memory)
+    → (wanted ≡ answer) ⊎ Stopped r wanted answer → NothingRose r → (r.status ≡ answer.status) ⊎ (r.status ≡ status.Memory)
 complete_either r wanted answer true true steps (inl same) none = inl (steps.status ∙ ap (λ (a : Answer). a.status) same)
-complete_either r wanted answer true true steps (inr h) none = inr (steps.status ∙ memory_of wanted.status h)
+complete_either r wanted answer true true steps (inr h) none = inr (steps.status ∙ memory_of wanted.status h.stop)
   where
     memory_of : (s : Status) → IsStop r.files_old r.files_new (job_of r.words) s wanted → s ≡ status.Memory
     memory_of status.Read h = absurd (none.files h.1.1.rose)
@@ -160,19 +193,18 @@ complete_either r wanted answer true false steps e none = absurd (none.note step
 complete_either r wanted answer false noted steps e none = absurd (none.out steps.output.taken.0)
 
 prefix_either : (r : Run) (wanted answer : Answer) → GainsPrefix r.out_old r.out_new wanted.text
-    → (wanted ≡ answer) ⊎ IsStop r.files_old r.files_new (job_of r.words) wanted.status wanted → GainsPrefix r.out_old r.out_new answer.text
+    → (wanted ≡ answer) ⊎ Stopped r wanted answer → GainsPrefix r.out_old r.out_new answer.text
 prefix_either r wanted answer gained (inl same) = subst (λ (a : Answer). GainsPrefix r.out_old r.out_new a.text) same gained
-prefix_either r wanted answer gained (inr h) =
-    nothing_is_prefix r.out_old r.out_new answer.text (gained_nothing r.out_old r.out_new wanted.text (stop_text r.files_old r.files_new (job_of r.words) wanted.status wanted h) gained)
+prefix_either r wanted answer gained (inr h) = longer_prefix r.out_old r.out_new wanted.text answer.text h.front gained
 
 sure_either : (r : Run) (wanted answer : Answer) (written : Bool) → Wrote r.out_old r.out_new wanted.text written
-    → (wanted ≡ answer) ⊎ IsStop r.files_old r.files_new (job_of r.words) wanted.status wanted → length answer.text ≤ r.out_old.room
+    → (wanted ≡ answer) ⊎ Stopped r wanted answer → length answer.text ≤ r.out_old.room
     → IsSure r.out_old r.out_new (length answer.text)
 sure_either r wanted answer written wrote (inl same) fits =
     let room : length wanted.text ≤ r.out_old.room = subst (λ (a : Answer). length a.text ≤ r.out_old.room) (sym same) fits in
     subst (λ (a : Answer). IsSure r.out_old r.out_new (length a.text)) same (wrote.sure room).1
 sure_either r wanted answer written wrote (inr h) fits =
-    let none : length wanted.text ≡ 0 = ap length (stop_text r.files_old r.files_new (job_of r.words) wanted.status wanted h) in
+    let whole : length answer.text ≡ length wanted.text + length h.front.0 = ap length h.front.1 ∙ length-append wanted.text h.front.0 in
     let room : length wanted.text ≤ r.out_old.room = omega arith in
     longer_sure r.out_old r.out_new (length wanted.text) (length answer.text) (omega arith) (wrote.sure room).1
 
@@ -186,7 +218,7 @@ usage_noted r wanted h none noted =
 -- on words that are no job
 no_job_text : (r : Run) (wanted : Answer) → job_of r.words ≡ None → IsEither r.files_old r.files_new (job_of r.words) wanted.status wanted → wanted.text ≡ []
 no_job_text r wanted none (inl h) = ap (λ (a : Answer). a.text) (subst (λ o. IsAnswer o h.0 wanted) none h.2)
-no_job_text r wanted none (inr h) = stop_text r.files_old r.files_new (job_of r.words) wanted.status wanted h
+no_job_text r wanted none (inr h) = stop_text r.files_old r.files_new (job_of r.words) wanted.status wanted (ap writes_early none) h
 
 no_job_status : (r : Run) (wanted : Answer) (said : Status) → said ≡ wanted.status → job_of r.words ≡ None → IsWantedAs r.files_old r.files_new (job_of r.words) said wanted
     → (said ≡ status.Usage) ⊎ (said ≡ status.Memory)
@@ -223,9 +255,9 @@ write_either r wanted true true steps is =
 write_either r wanted false true steps is = inr (steps.output.taken.0, steps.note.taken)
 write_either r wanted written false steps is = inl steps.note.taken.0
 
-quiet_either : (r : Run) (wanted : Answer) → IsEither r.files_old r.files_new (job_of r.words) wanted.status wanted → (wanted.status ≡ status.Done → ⊥) → wanted.text ≡ []
-quiet_either r wanted (inl h) isnt = answer_quiet (job_of r.words) h.0 wanted h.2 isnt
-quiet_either r wanted (inr h) isnt = stop_text r.files_old r.files_new (job_of r.words) wanted.status wanted h
+quiet_either : (r : Run) (wanted : Answer) → writes_early (job_of r.words) ≡ false → IsEither r.files_old r.files_new (job_of r.words) wanted.status wanted → (wanted.status ≡ status.Done → ⊥) → wanted.text ≡ []
+quiet_either r wanted not (inl h) isnt = answer_quiet (job_of r.words) h.0 wanted h.2 not isnt
+quiet_either r wanted not (inr h) isnt = stop_text r.files_old r.files_new (job_of r.words) wanted.status wanted not h
 
 note_either : (r : Run) (wanted : Answer) (written noted : Bool) → Steps r wanted written noted
     → (said : Status) × (line : List ℕ) × (noted : Bool) × (HasCause r said line) × (Wrote r.note_old r.note_new line noted) × (r.status ≡ (if noted then said else status.Write))
@@ -263,7 +295,7 @@ keeps_steps r wanted written noted steps = record {
   quiet = λ early isnt_done isnt.
       let whole = whole_of r wanted written noted steps isnt in
       gained_nothing r.out_old r.out_new wanted.text
-      (quiet_either r wanted (either_in r wanted written noted steps) (λ e. isnt_done (whole.status ∙ e)))
+      (quiet_either r wanted early (either_in r wanted written noted steps) (λ e. isnt_done (whole.status ∙ e)))
       (prefix_in r wanted written noted steps);
   note = note_either r wanted written noted steps;
   kept = (steps.files, steps.output.count, steps.note.count);

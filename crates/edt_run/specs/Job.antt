@@ -16,6 +16,7 @@ unfoldable pub cmd_of : List ℕ → Option Cmd
 cmd_of word =
     if bytes_eq word (codes "gen") then Some cmd.Gen
     else if bytes_eq word (codes "dts") then Some cmd.Dts
+    else if bytes_eq word (codes "expand") then Some cmd.Expand
     else None
 
 pub record RowData : Type 0 where
@@ -26,6 +27,7 @@ pub record RowData : Type 0 where
 abbrev pub row_of : Cmd → RowData
 row_of cmd.Gen = record { least = 1; most = 1 }
 row_of cmd.Dts = record { least = 1; most = 32 }
+row_of cmd.Expand = record { least = 1; most = 33 }
 
 -- ---- the names
 

@@ -1,4 +1,6 @@
 pub mod Answer
+pub mod ExpandAnswer
+pub mod ExpandSteps
 pub mod Forest
 pub mod Header
 pub mod Job

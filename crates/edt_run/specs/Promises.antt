@@ -7,7 +7,8 @@ use Rattle.edt_run.specs.declared.asked.Cmd.{Cmd}
 use Rattle.edt_run.specs.declared.asked.Cmd.TheVariants as cmd
 use Rattle.edt_run.specs.declared.top.Status.{Status}
 use Rattle.edt_run.specs.declared.top.Status.TheVariants as status
-use Rattle.edt_run.specs.Answer.{Answer, Given, IsGiven, refusal, refused, usage_line, write_line, memory_line, read_line, source_limit, first_above, too_long}
+use Rattle.edt_run.specs.Answer.{Answer, Given, IsGiven, refusal, refused, usage_line, write_line, memory_line, read_line, first_past}
+use Rattle.edt_run.specs.ExpandAnswer.{IsExpandAnswer}
 use Rattle.edt_run.specs.Job.{JobData, job_of}
 use Rattle.edt_run.specs.SmallAnswer.{IsSmallAnswer}
 use Rattle.edt_run.specs.TreeAnswer.{IsTreeAnswer}
@@ -19,11 +20,12 @@ abbrev pub IsAnswerOf : Cmd → List (List ℕ) → List (List ℕ) → Answer �
 IsAnswerOf cmd.Gen (name ∷ names) (source ∷ sources) answer = IsSmallAnswer name source answer
 IsAnswerOf cmd.Gen _ _ answer = ⊥
 IsAnswerOf cmd.Dts names sources answer = IsTreeAnswer names sources answer
+IsAnswerOf cmd.Expand names sources answer = IsExpandAnswer names sources answer
 
--- the limit on sources is met before every rule
+-- the limits on sources are met before every rule
 abbrev pub IsAnswerTo : JobData → Given → Answer → Type 0
-IsAnswerTo job given answer = MatchOption (first_above source_limit job.names given.sources)
-    (IsAnswerOf job.cmd job.names given.sources answer) (λ name. answer ≡ refused (too_long name))
+IsAnswerTo job given answer = MatchOption (first_past job.cmd job.names given.sources)
+    (IsAnswerOf job.cmd job.names given.sources answer) (λ fault. answer ≡ refused fault)
 
 -- words that are no job are answered by status 2
 abbrev pub IsAnswer : Option JobData → Given → Answer → Type 0
@@ -37,13 +39,14 @@ IsReadOf (Some job) (call.Read name) = Contains job.names name
 IsReadOf (Some job) (call.List name) = ⊥
 
 -- a command may write lines before it refuses a later one
+abbrev pub is_early : Cmd → Bool
+is_early cmd.Gen = false
+is_early cmd.Dts = false
+is_early cmd.Expand = true
+
 abbrev pub writes_early : Option JobData → Bool
 writes_early None = false
-writes_early (Some job) = of_command job.cmd
-  where
-    of_command : Cmd → Bool
-    of_command cmd.Gen = false
-    of_command cmd.Dts = false
+writes_early (Some job) = is_early job.cmd
 
 -- ---- a run
 

@@ -12,6 +12,8 @@ pub enum Cmd {
     Gen,
     /// Write the tree that the sources leave, as a source.
     Dts,
+    /// Write the lines of the last source, expanded over the definitions of those before it.
+    Expand,
 }
 
 /// What the words of a command line ask for. There is at least one name.

@@ -1,14 +1,17 @@
-//! The top call: reads a source and writes its header.
+//! The top call: words to status, output and note.
 #![tactic(auto)]
 
 mod apart;
 mod asked;
 mod decision;
+mod definitions;
+mod expanding;
 mod header;
 mod laws;
 mod node;
 mod piece;
 mod reader;
+mod refusal;
 mod sources;
 mod token;
 mod top;

@@ -4,6 +4,7 @@ ghost use Rattle.edt_run.specs.Promises.{KeepsPromises};
 ghost use Rattle.edt_run.specs.Steps.{Ran, IsSaid};
 
 use crate::decision::{Decision, decide};
+use crate::expanding::{Ended, write_output};
 use crate::header::emit;
 use crate::words::job;
 use dts_print::print;
@@ -64,11 +65,18 @@ fn carry_out<F: Files, O: Sink, E: Sink>(
         Ok(None) => say(note, Status::Usage, "edt: usage\n"),
         Ok(Some(job)) => match decide(alloc, &job, files) {
             Err(_) => say(note, Status::Memory, "edt: memory\n"),
-            Ok(Decision::Refusal(status, line)) => say(note, status, line.as_str()),
+            Ok(Decision::Refused(said)) => say(note, said.status, said.line.as_str()),
             Ok(Decision::Source(tree)) => match print(&tree, out) {
                 Ok(()) => say(note, Status::Done, ""),
                 Err(_) => say(note, Status::Write, "edt: write\n"),
             },
+            Ok(Decision::Lines(mut defs, name, text)) => {
+                match write_output(alloc, &mut defs, &name, text.as_slice(), out) {
+                    Ended::Said(said) => say(note, said.status, said.line.as_str()),
+                    Ended::Memory => say(note, Status::Memory, "edt: memory\n"),
+                    Ended::Failed => say(note, Status::Write, "edt: write\n"),
+                }
+            }
             Ok(Decision::Header(nodes)) => match emit(nodes.as_slice(), out) {
                 Ok(()) => say(note, Status::Done, ""),
                 Err(_) => say(note, Status::Write, "edt: write\n"),
@@ -79,8 +87,9 @@ fn carry_out<F: Files, O: Sink, E: Sink>(
 
 /// Does all that the program does: for the words `gen NAME` it reads the source of that name and
 /// writes the header of its nodes to `out`, and for `dts SRC..` it reads these sources, the base and
-/// its overlays, and writes the tree that they leave as one source; `-` names standard input, at
-/// most once. `words` are the arguments after the program's name, `note` is where a refusal is told,
+/// its overlays, and writes the tree that they leave as one source. For `expand [DEFS..] TEXT` it
+/// reads the definitions of DEFS, and writes the lines of TEXT expanded over them, one after another.
+/// `-` names standard input, at most once. `words` are the arguments after the program's name, `note` is where a refusal is told,
 /// in one line, and the status is how it ended.
 ///
 /// The one clause is the promise of the whole program: when each status comes and why, what the

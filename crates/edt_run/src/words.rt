@@ -70,6 +70,7 @@ fn cmd_of(word: &str) -> Option<Cmd>
     match word {
         "gen" => Some(Cmd::Gen),
         "dts" => Some(Cmd::Dts),
+        "expand" => Some(Cmd::Expand),
         _ => None,
     }
 }
@@ -81,6 +82,7 @@ fn row_of(cmd: Cmd) -> Row
     match cmd {
         Cmd::Gen => Row { least: 1, most: 1 },
         Cmd::Dts => Row { least: 1, most: 32 },
+        Cmd::Expand => Row { least: 1, most: 33 },
     }
 }
 

@@ -1,8 +1,9 @@
 -- Cells, read one at a time.
-use Rattle.std.proofs.Common.{◌≡◌, ◌∙◌, ◌+◌, ◌*◌, ◌≤◌, ◌++◌, ◌∷◌, [], ◌&&◌, ℕ, zero, suc, Bool, true, false, List, length, take, drop, nat_eq, refl, sym, ap, subst, arith}
+use Rattle.std.proofs.Common.{◌≡◌, ◌∙◌, ◌+◌, ◌*◌, ◌<◌, ◌≤◌, ◌++◌, ◌∷◌, [], ◌&&◌, ℕ, zero, suc, Bool, true, false, List, length, take, drop, nat_eq, nat_lt, min, refl, sym, ap, subst, arith, ◌-◌, ◌^◌}
+use Rattle.std.proofs.lemmas.Bool.Decides.{nat_tests}
 use Rattle.std.proofs.lemmas.List.{drop-drop, drop_all}
 use Rattle.edt_base.specs.Cells.{cells_of}
-use Rattle.pha_nexus.specs.Rows.{are_same}
+use Rattle.pha_nexus.specs.Rows.{are_same, has_rest}
 
 -- one cell more of those that are compared
 pub same_next : (acc : Bool) (left ws cells rest : List ℕ) (c w : ℕ) (total : Bool) → left ≡ w ∷ ws → cells ≡ c ∷ rest
@@ -66,3 +67,21 @@ cells_fit (a ∷ []) = omega arith
 cells_fit (a ∷ b ∷ []) = omega arith
 cells_fit (a ∷ b ∷ c ∷ []) = omega arith
 cells_fit (a ∷ b ∷ c ∷ d ∷ rest) = omega (arith, cells_fit rest)
+
+pub cells_fill : (bs : List ℕ) → length bs < 4 * length (cells_of bs) + 4
+cells_fill [] = omega arith
+cells_fill (a ∷ []) = omega arith
+cells_fill (a ∷ b ∷ []) = omega arith
+cells_fill (a ∷ b ∷ c ∷ []) = omega arith
+cells_fill (a ∷ b ∷ c ∷ d ∷ rest) = omega (arith, cells_fill rest)
+
+-- a value is longer than its cells exactly where there is a rest
+pub rest_is : (bs cells : List ℕ) (len : ℕ) → cells ≡ cells_of bs → len ≡ min (length bs) (2 ^ 64 - 1) → 4 * length cells < 2 ^ 64 - 1
+    → nat_lt (4 * length cells) len ≡ has_rest (length bs)
+rest_is bs cells len e l few =
+    let n : length cells ≡ length (cells_of bs) = ap length e in
+    let low : 4 * length (cells_of bs) ≤ length bs = cells_fit bs in
+    let high : length bs < 4 * length (cells_of bs) + 4 = cells_fill bs in
+    let small : min (length bs) (2 ^ 64 - 1) ≡ length bs = grind (arith, nat_tests) in
+    let is : len ≡ length bs = l ∙ small in
+    grind (arith, nat_tests)

@@ -43,7 +43,7 @@ pub fn follow(
     ensures refused { IfErr result (IsRefused (followed t.now.nodes space.now start spec.now.items)
         (path_at t.now.nodes from)) }
 {
-    match follow_from(alloc, t, start, space.as_str(), spec.as_slice()) {
+    match follow_from(alloc, t, start, space, spec.as_slice()) {
         Ok(end) => Ok(end),
         Err(stop) => Err(t.node(from).told(alloc, stop)),
     }
@@ -54,7 +54,7 @@ fn follow_from(
     alloc: Global,
     t: &Tree,
     start: NodeId,
-    space: &str,
+    space: &Text,
     spec: &[u32],
 ) -> Result<(NodeId, Vec<u32>), Stop>
     requires { start < length t.now.nodes }
@@ -68,7 +68,8 @@ fn follow_from(
     go_along(alloc, t, &space, start, spec)
 }
 
-fn go_along(
+/// Where a specifier ends, and as what; or the first rule that is broken on its way.
+pub(crate) fn go_along(
     alloc: Global,
     t: &Tree,
     space: &Space<'_>,

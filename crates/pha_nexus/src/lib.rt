@@ -2,11 +2,17 @@
 #![tactic(auto)]
 
 mod cells;
+mod cutting;
 mod following;
 mod laws;
+mod matches;
+mod naming;
 mod passing;
+mod phandle_array;
 mod rows;
 mod space;
 
 pub use following::follow;
-pub use laws::specifiers_are_followed_along_chains;
+pub use laws::{a_match_follows_from_the_parents, specifiers_are_followed_along_chains};
+pub use matches::{Matches, view_at};
+pub use phandle_array::entries;

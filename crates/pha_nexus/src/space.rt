@@ -3,9 +3,9 @@
 ghost use Rattle.std.specs.Prelude.{◌≡◌, ◌<◌, ◌^◌, IfOk, IfErr, IfSome, Ok, length, option_map};
 ghost use Rattle.edt_base.specs.Nodes.{prop_at};
 ghost use Rattle.edt_base.specs.Refusals.{IsStop};
-ghost use Rattle.pha_nexus.specs.Space.{count_at, is_interrupt, map_at, mask_at, parent_width, pass_at, width_by};
+ghost use Rattle.pha_nexus.specs.Space.{cells_name, count_at, is_interrupt, map_at, mask_at, parent_width, pass_at, width_by};
 
-use edt_base::{NodeId, PropVal, Rule, Stop, Tree};
+use edt_base::{NodeId, PropVal, Rule, Stop, Text, Tree};
 use std::alloc::{AllocError, Global};
 use std::marker::Model;
 
@@ -13,7 +13,7 @@ use std::marker::Model;
 /// v0.4, 2.5.1). Contracts see the bytes of its own name.
 #[derive(Drop)]
 pub(crate) struct Space<'a> {
-    name: &'a str,
+    pub(crate) name: &'a Text,
     cells: String,
     map: String,
     mask: String,
@@ -37,11 +37,13 @@ impl<'a> Model for Space<'a> {
 
 impl<'a> Space<'a> {
     /// The space of this name.
-    pub(crate) fn new(alloc: Global, name: &'a str) -> Result<Space<'a>, AllocError>
+    pub(crate) fn new(alloc: Global, name: &'a Text) -> Result<Space<'a>, AllocError>
         ensures { IfOk result (λ s. s ≡ name.now) }
     {
+        let space = name;
+        let name = space.as_str();
         Ok(Space {
-            name,
+            name: space,
             cells: format!(in alloc; "#{name}-cells")?,
             map: format!(in alloc; "{name}-map")?,
             mask: format!(in alloc; "{name}-map-mask")?,
@@ -86,10 +88,18 @@ impl<'a> Space<'a> {
         )
     }
 
+    /// How many cells a node's specifiers have; None where it doesn't say.
+    pub(crate) fn width(&self, t: &Tree, id: NodeId) -> Option<u32>
+        requires { id < length t.now.nodes }
+        ensures { result ≡ count_at t.now.nodes id (cells_name self.now) }
+    {
+        count(t, id, self.cells.as_str())
+    }
+
     fn is_interrupt(&self) -> bool
         ensures { result ≡ is_interrupt self.now }
     {
-        self.name == "interrupt"
+        self.name.as_str() == "interrupt"
     }
 }
 

@@ -1,5 +1,5 @@
 -- Declared properties are typed as the rules say one by one.
-use Rattle.std.proofs.Common.{◌≡◌, ◌∙◌, ◌⊎◌, ◌&&◌, ◌||◌, ◌++◌, ℕ, Bool, true, false, not, List, [], ◌∷◌, Option, Some, None, Result, Ok, Err, is_some, length, map, nat_eq, option_map, position, ap, sym, refl, inl, inr, if◌then◌else◌}
+use Rattle.std.proofs.Common.{◌≡◌, ◌∙◌, ◌⊎◌, ◌&&◌, ◌||◌, ℕ, Bool, true, false, not, List, [], ◌∷◌, Option, Some, None, Result, Ok, Err, is_some, length, map, nat_eq, option_map, position, ap, sym, refl, inl, inr, if◌then◌else◌}
 use Rattle.std.proofs.lemmas.Bool.{false≢true}
 use Rattle.std.proofs.lemmas.Option.{none-some, same_Some}
 use Rattle.std.specs.List.{list_any}
@@ -17,7 +17,7 @@ use Rattle.edt_base.specs.declared.fault.Rule.{Rule}
 use Rattle.edt_base.specs.declared.fault.Rule.TheVariants as rule
 use Rattle.edt_base.specs.declared.node.Part.{Part}
 use Rattle.prop_types.specs.AllThere.{all_there, before}
-use Rattle.prop_types.specs.Broken.{ArePropsOf, Breaks, BreaksAt, HasNoValue, HasValue, IsFirstBroken, IsFirstOf, IsPropOf, KeepsAll, in_order, is_outside, tested}
+use Rattle.prop_types.specs.Broken.{ArePropsOf, Breaks, BreaksAt, HasValue, IsFirstBroken, IsFirstOf, IsPropOf, in_order, is_outside}
 use Rattle.prop_types.specs.Choices.{choices_of, is_number, is_text, number_choice, text_choice}
 use Rattle.prop_types.specs.Given.{byte_in, cell_in, is_constant}
 use Rattle.prop_types.specs.Typing.{DeclaredData, as_one, choices_in, joined, of_unwritten, of_written, typed_all, typed_one, unwritten, with_choices, with_value}

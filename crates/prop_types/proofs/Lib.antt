@@ -1,4 +1,5 @@
 pub mod BrokenLaws
+pub mod HeldLaws
 pub mod PlaceLaws
 pub mod There
 pub mod TypingLaws

@@ -1,7 +1,7 @@
 -- A list that is read item by item, where an item may not be there.
 use Rattle.std.proofs.Common.{◌≡◌, ◌++◌, List, [], ◌∷◌, Option, Some, None, ap, sym, refl}
 use Rattle.std.proofs.lemmas.List.{append_assoc}
-use Rattle.prop_types.specs.AllThere.{all_there, before}
+use Rattle.prop_types.specs.AllThere.{before}
 
 -- what comes after some things
 abbrev pub there_after : {X : Type 0} → List X → Option (List X) → Option (List X)

@@ -1,5 +1,5 @@
 -- Declared properties that are typed one after another.
-use Rattle.std.proofs.Common.{◌≡◌, ◌+◌, ◌<◌, ◌++◌, suc, length, get_or, drop, add-one, drop-cons, ℕ, Bool, true, false, List, [], ◌∷◌, Option, Some, None, Result, Ok, Err, filter, is_some, map, ap, sym, refl, ◌∙◌, ◌||◌, not, if◌then◌else◌}
+use Rattle.std.proofs.Common.{◌≡◌, ◌+◌, ◌<◌, ◌++◌, suc, length, get_or, drop, add-one, drop-cons, ℕ, Bool, true, false, List, [], ◌∷◌, Option, Some, None, Result, Ok, Err, filter, is_some, map, ap, sym, refl, ◌∙◌, ◌||◌, if◌then◌else◌}
 use Rattle.std.proofs.lemmas.List.{append_assoc}
 use Rattle.std.specs.List.{list_any}
 use Rattle.edt_base.specs.PropData.{PropData}

@@ -1,10 +1,10 @@
 -- Typed properties keep what each property of a bound tree keeps.
-use Rattle.std.proofs.Common.{◌≡◌, ◌∙◌, ◌⊎◌, ◌&&◌, ◌<◌, ℕ, suc, Bool, true, false, List, [], ◌∷◌, Option, Some, None, Result, Ok, Err, IsTrue, All, length, map, nat_eq, option_map, option_and_then, position, ap, sym, refl, subst, inl, inr, arith, if◌then◌else◌}
-use Rattle.std.proofs.lemmas.List.Elements.{All-append, All-cons}
+use Rattle.std.proofs.Common.{◌≡◌, ◌∙◌, ◌⊎◌, ◌<◌, ℕ, suc, Bool, true, false, List, [], ◌∷◌, Option, Some, None, Ok, Err, IsTrue, All, length, map, nat_eq, option_map, option_and_then, position, ap, sym, refl, subst, inl, inr, arith, if◌then◌else◌}
+use Rattle.std.proofs.lemmas.List.Elements.{All-cons}
 use Rattle.std.proofs.lemmas.List.Quantifiers.{position-Some}
 use Rattle.std.proofs.lemmas.Option.{none-some, same_Some}
 use Rattle.edt_base.specs.NodeData.{NodeData, bytes_of, has_path, has_phandle, one_cell}
-use Rattle.edt_base.specs.Nodes.{is_okay, prop_at}
+use Rattle.edt_base.specs.Nodes.{prop_at}
 use Rattle.edt_base.specs.PropData.{IsTyped, PropData}
 use Rattle.edt_base.specs.ValData.{HasNodesBelow, IsOfType, ValData, bool_val, int_val, ints_val, is_tested, u8s_val, str_val, strs_val, node_val, nodes_val, entries_val, compound_val, tested_count}
 use Rattle.edt_base.specs.Values.{are_strings, value_cells, value_string, value_strings}

@@ -1,5 +1,5 @@
 -- Which entries of `enum` a property's values are.
-use Rattle.std.specs.Prelude.{◌≡◌, ℕ, Bool, List, [], ◌∷◌, Option, Some, None, false, decimal, map, nat_eq, option_map, position}
+use Rattle.std.specs.Prelude.{ℕ, Bool, List, [], ◌∷◌, Option, Some, false, decimal, map, nat_eq, option_map, position}
 use Rattle.std.specs.Option.{option_map_or}
 use Rattle.std.specs.Str.{bytes_eq}
 use Rattle.edt_base.specs.Forms.{form_of}

@@ -1,7 +1,9 @@
 pub mod AllThere
 pub mod Broken
 pub mod Choices
+pub mod Declaring
 pub mod Given
+pub mod Held
 pub mod Inner
 pub mod Typing
 pub mod Written

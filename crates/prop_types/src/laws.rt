@@ -5,7 +5,19 @@ ghost use Rattle.edt_base.specs.NodeData.{NodeData};
 ghost use Rattle.edt_base.specs.PropData.{IsTyped, PropData};
 ghost use Rattle.edt_base.specs.declared.fault.Rule.{Rule};
 ghost use Rattle.prop_types.specs.Broken.{ArePropsOf, IsFirstBroken};
+ghost use Rattle.prop_types.specs.Held.{DeclaredAreHeld};
 ghost use Rattle.prop_types.specs.Typing.{DeclaredData, typed_all};
+
+use bind_merge::views_show;
+
+/// What the view of a merged binding declares, at each child-binding step, are the properties of
+/// which its file holds a type along its includes, filters and child-bindings, in byte order of
+/// their names; each setting is the one that the file holds.
+pub fn declared_properties_are_held()
+    ensures { DeclaredAreHeld }
+{
+    views_show();
+}
 
 /// Declared properties are typed exactly where none of them breaks a rule, and then they are in
 /// order those that have a value, each with the value and its choices. Else the rule that is told

@@ -2,6 +2,7 @@
 #![tactic(auto)]
 
 mod choices;
+mod declaring;
 mod forms;
 mod given;
 mod laws;
@@ -10,6 +11,7 @@ mod properties;
 mod typing;
 mod written;
 
-pub use laws::{declared_properties_are_typed, typed_properties_are_whole};
-pub use properties::Declared;
-pub use typing::typed_as_declared;
+pub use laws::{
+    declared_properties_are_held, declared_properties_are_typed, typed_properties_are_whole,
+};
+pub use typing::typed;

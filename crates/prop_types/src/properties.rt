@@ -18,19 +18,19 @@ use std::alloc::{AllocError, Global};
 
 /// A property that a binding declares, with what it says of the value.
 #[derive(Clone, Copy)]
-pub struct Declared<'a> {
+pub(crate) struct Declared<'a> {
     /// The name.
-    pub name: &'a str,
+    pub(crate) name: &'a str,
     /// The type.
-    pub ty: PropType,
+    pub(crate) ty: PropType,
     /// Whether an okay node has to have it.
-    pub required: bool,
+    pub(crate) required: bool,
     /// `default`: its value where it isn't written.
-    pub default: Option<&'a Yaml>,
+    pub(crate) default: Option<&'a Yaml>,
     /// `const`: the only value that it may have.
-    pub constant: Option<&'a Yaml>,
+    pub(crate) constant: Option<&'a Yaml>,
     /// `enum`: what each tested value has to be one of.
-    pub choices: Option<&'a [Yaml]>,
+    pub(crate) choices: Option<&'a [Yaml]>,
 }
 
 /// The declared properties of a node, in order. Broken by the first rule of the first property that

@@ -1,25 +1,28 @@
 //! The typed properties of a node.
 
-ghost use Rattle.std.specs.Prelude.{◌≡◌, ◌||◌, ◌++◌, ◌∷◌, ◌<◌, [], IfErr, IfOk, OnOk, List, Ok};
+ghost use Rattle.std.specs.Prelude.{◌≡◌, ◌||◌, ◌++◌, ◌∷◌, ◌<◌, [], IfErr, IfOk, OnOk, List, Ok, Some};
 ghost use Rattle.std.specs.Prelude.{codes, filter, length, map, nat_eq, not, option_map, ℕ};
 ghost use Rattle.std.specs.Prelude.{if◌then◌else◌};
 ghost use Rattle.std.specs.List.{ends_with, list_any, starts_with};
 ghost use Rattle.edt_base.specs.Nodes.{path_at};
 ghost use Rattle.edt_base.specs.Refusals.{IsRefused, IsStop};
 ghost use Rattle.edt_base.specs.declared.node.Part.{Part};
+ghost use Rattle.prop_types.specs.Declaring.{declared_in};
 ghost use Rattle.prop_types.specs.Inner.Places.{HasNames, has_name};
 ghost use Rattle.prop_types.specs.Inner.Seen.{seen};
 ghost use Rattle.prop_types.specs.Typing.{is_free, is_neither, is_standard, is_written, plain};
 ghost use Rattle.prop_types.specs.Typing.{plain_ones, typed_of};
 
+use crate::declaring::declared_in;
 use crate::properties::{Declared, typed_all};
+use bind_merge::View;
 use edt_base::{End, NodeId, NodeRec, Prop, PropType, Rule, Stop, Tree};
 use std::alloc::{AllocError, Global};
 use std::collections::BTreeMap;
 
-/// The typed properties of a node whose binding declares these, which stand in byte order of their
-/// names, or that has no binding (Zephyr 3.7, "Devicetree bindings syntax"). The node's place must
-/// be below the number of nodes. A phandle-array comes with no entries.
+/// The typed properties of a node by its merged binding, or of a node without one (Zephyr 3.7,
+/// "Devicetree bindings syntax"), in byte order of their names. The node's place must be below the
+/// number of nodes. A phandle-array comes with no entries.
 ///
 /// A declared property that is written has the value that its parts have as its type; one that
 /// isn't has its `default`, and a boolean is then 0; one without any is left out. A node without a
@@ -34,19 +37,14 @@ use std::collections::BTreeMap;
 /// two are tested on a default too.
 ///
 /// Takes time n log n in the properties and their bytes and in the entries of `enum`.
-pub fn typed_as_declared(
-    alloc: Global,
-    t: &Tree,
-    id: NodeId,
-    declared: Option<&[Declared<'_>]>,
-) -> Result<Vec<Prop>, End>
+pub fn typed(alloc: Global, t: &Tree, id: NodeId, v: Option<&View<'_>>) -> Result<Vec<Prop>, End>
     requires { id < length t.now.nodes }
-    ensures is { IfOk result (λ v. typed_of t.now.nodes id
-        (option_map (λ d. map seen d.now) declared.entry) ≡ Ok v.items) }
+    ensures is { IfOk result (λ props. typed_of t.now.nodes id
+        (option_map (λ v. declared_in v.now) v.entry) ≡ Ok props.items) }
     ensures refused { IfErr result (IsRefused (typed_of t.now.nodes id
-        (option_map (λ d. map seen d.now) declared.entry)) (path_at t.now.nodes id)) }
+        (option_map (λ v. declared_in v.now) v.entry)) (path_at t.now.nodes id)) }
 {
-    match typed_of(alloc, t, id, declared) {
+    match typed_of(alloc, t, id, v) {
         Ok(props) => Ok(props),
         Err(stop) => Err(t.node(id).told(alloc, stop)),
     }
@@ -54,30 +52,36 @@ pub fn typed_as_declared(
 
 // The same without the place of a fault.
 #[tactic(auto, unfolding(crate::specs::Typing::typed_of))]
-fn typed_of(
-    alloc: Global,
-    t: &Tree,
-    id: NodeId,
-    declared: Option<&[Declared<'_>]>,
-) -> Result<Vec<Prop>, Stop>
+fn typed_of(alloc: Global, t: &Tree, id: NodeId, v: Option<&View<'_>>) -> Result<Vec<Prop>, Stop>
     requires { id < length t.now.nodes }
-    ensures is { IfOk result (λ v. typed_of t.now.nodes id
-        (option_map (λ d. map seen d.now) declared.entry) ≡ Ok v.items) }
+    ensures is { IfOk result (λ props. typed_of t.now.nodes id
+        (option_map (λ v. declared_in v.now) v.entry) ≡ Ok props.items) }
     ensures stop { IfErr result (IsStop (typed_of t.now.nodes id
-        (option_map (λ d. map seen d.now) declared.entry))) }
+        (option_map (λ v. declared_in v.now) v.entry))) }
 {
-    match declared {
-        Some(declared) => {
-            if has_undeclared(alloc, t.node(id), declared)? {
-                return Err(Stop::Broken(Rule::V12));
-            }
-            typed_all(alloc, t, id, declared)
-        }
+    match v {
+        Some(view) => typed_by(alloc, t, id, view),
         None => {
             let plain = plain_ones(alloc, t, id)?;
             typed_all(alloc, t, id, plain.as_slice())
         }
     }
+}
+
+// The typed properties of a node by its merged binding.
+#[tactic(auto, unfolding(crate::specs::Typing::typed_of))]
+fn typed_by(alloc: Global, t: &Tree, id: NodeId, view: &View<'_>) -> Result<Vec<Prop>, Stop>
+    requires { id < length t.now.nodes }
+    ensures is { IfOk result (λ props. typed_of t.now.nodes id (Some (declared_in view.now))
+        ≡ Ok props.items) }
+    ensures stop { IfErr result
+        (IsStop (typed_of t.now.nodes id (Some (declared_in view.now)))) }
+{
+    let declared = declared_in(alloc, view)?;
+    if has_undeclared(alloc, t.node(id), declared.as_slice())? {
+        return Err(Stop::Broken(Rule::V12));
+    }
+    typed_all(alloc, t, id, declared.as_slice())
 }
 
 // Whether a node has a property that is neither declared nor free.

@@ -1,6 +1,6 @@
-//! Rows of `prop_types`: `board` is a source, `node` the path of a node of it, and `binding` has
-//! the lines of the binding file that is the node's, where it has one, its properties in byte
-//! order.
+//! Rows of `prop_types`: `board` is a source, and `node` the path of a node of it. `binding` has the
+//! lines of the node's binding file behind its `description` and `compatible`, where it has one;
+//! `included` those of a file `base.yaml`. With `child` the node has the file's child-binding.
 //!
 //! The answer has the node's typed properties, each `NAME=VALUE` with a blank after it, or the rule
 //! that it breaks: numbers in decimal, several in `{ }`, bytes in `[ ]`, texts in quotes, nodes as
@@ -11,11 +11,10 @@ ghost use Rattle.std.specs.Prelude.{◌<◌, length};
 
 use crate::boards::{node_at, tree_of};
 use crate::table::Row;
-use bind_load::{PropSpec, load};
-use edt_base::{End, NodeId, Place, Prop, PropType, Text, Tree, Val};
-use prop_types::{Declared, typed_as_declared};
+use bind_merge::Library;
+use edt_base::{Bytes, End, NodeId, Place, Prop, Text, Tree, Val};
+use prop_types::typed;
 use std::alloc::{AllocError, Global};
-use yaml_profile::read;
 
 pub fn answer(alloc: Global, row: &Row) -> Result<Option<String>, AllocError> {
     let Some(source) = row.bytes("board") else {
@@ -44,8 +43,8 @@ fn push_typed(
     let tree = tree_of(alloc, source)?;
     let id = node_at(&tree, path);
     let props = match row.bytes("binding") {
-        Some(binding) => typed_by(alloc, &tree, id, binding)?,
-        None => typed_as_declared(alloc, &tree, id, None)?,
+        Some(binding) => typed_by(alloc, row, &tree, id, binding)?,
+        None => typed(alloc, &tree, id, None)?,
     };
     for prop in props.iter() {
         show_prop(out, &tree, prop)?;
@@ -53,32 +52,46 @@ fn push_typed(
     Ok(())
 }
 
-/// The properties by what a binding file declares, in the order of its lines.
-fn typed_by(alloc: Global, tree: &Tree, id: NodeId, binding: &[u8]) -> Result<Vec<Prop>, End>
+/// The properties of a node by its binding file.
+fn typed_by(
+    alloc: Global,
+    row: &Row,
+    tree: &Tree,
+    id: NodeId,
+    binding: &[u8],
+) -> Result<Vec<Prop>, End>
     requires { id < length tree.now.nodes }
 {
-    let file = Text::new(String::from_str(alloc, "d/x.yaml")?);
-    let value = read(alloc, &file, binding)?;
-    let record = load(alloc, &file, &value)?;
-    let mut declared = Vec::new(alloc);
-    for (name, spec) in record.props.iter() {
-        declared.push(declared_of(name, spec))?;
+    let mut library = library_of(alloc, binding, row.bytes("included").unwrap_or(b""))?;
+    let compats = vec![in alloc; Text::new(String::from_str(alloc, "v,x")?)]?;
+    library.load(alloc, &compats)?;
+    let compat = Text::new(String::from_str(alloc, "v,x")?);
+    let Some(file) = library.find(&compat, None) else {
+        return Ok(Vec::new(alloc));
+    };
+    let view = library.view(alloc, file)?;
+    if row.bytes("child").is_none() {
+        return typed(alloc, tree, id, Some(&view));
     }
-    typed_as_declared(alloc, tree, id, Some(declared.as_slice()))
+    match view.child(alloc)? {
+        Some(child) => typed(alloc, tree, id, Some(&child)),
+        None => typed(alloc, tree, id, None),
+    }
 }
 
-fn declared_of<'a>(name: &'a Text, spec: &'a PropSpec) -> Declared<'a> {
-    Declared {
-        name: name.as_str(),
-        ty: spec.ty.unwrap_or(PropType::Compound),
-        required: spec.required.unwrap_or(false),
-        default: spec.default.as_ref(),
-        constant: spec.constant.as_ref(),
-        choices: match &spec.choices {
-            Some(choices) => Some(choices.as_slice()),
-            None => None,
-        },
-    }
+/// The two files of a row.
+fn library_of(alloc: Global, binding: &[u8], included: &[u8]) -> Result<Library, AllocError> {
+    let mut file = Vec::new(alloc);
+    file.extend_from_slice(b"description: x\ncompatible: \"v,x\"\n")?;
+    file.extend_from_slice(binding)?;
+    let mut base = Vec::new(alloc);
+    base.extend_from_slice(included)?;
+    let mut files = Vec::new(alloc);
+    let name = Text::new(String::from_str(alloc, "d/x.yaml")?);
+    files.push((name, Bytes::new(file)))?;
+    let name = Text::new(String::from_str(alloc, "d/base.yaml")?);
+    files.push((name, Bytes::new(base)))?;
+    Ok(Library::new(files))
 }
 
 fn show_prop(out: &mut String, tree: &Tree, prop: &Prop) -> Result<(), AllocError> {

@@ -1,5 +1,6 @@
 //! Rows of `edt_run`: `words` has the words of a command line, one a line, `source` the source
-//! `b.dts` and `overlay`, where it is there, the source `o.dts`; there is no other file.
+//! `b.dts`. `overlay`, `defs` and `text`, where they are there, are the files `o.dts`, `h` and `t`;
+//! there is no other file.
 //!
 //! `calls` has the numbers of the calls of the files that fail, `writes` those of the output's
 //! writes that fail; `room` is how many bytes the output has room for, `most` how many it takes at
@@ -76,15 +77,15 @@ fn words_of(alloc: Global, lines: &str) -> Result<Words, AllocError> {
     Ok(Words::new(words))
 }
 
-/// The files, which hold the sources of the row.
+/// The files, which hold what the row gives.
 fn files_of(alloc: Global, row: &Row) -> Result<MemFiles, AllocError> {
-    let calls = numbers_of(alloc, row, "calls")?;
-    let base = file(alloc, "b.dts", row.bytes("source").unwrap_or(b""))?;
-    let held = match row.bytes("overlay") {
-        Some(overlay) => vec![in alloc; base, file(alloc, "o.dts", overlay)?]?,
-        None => vec![in alloc; base]?,
-    };
-    Ok(MemFiles::new(held, calls))
+    let mut held = vec![in alloc; file(alloc, "b.dts", row.bytes("source").unwrap_or(b""))?]?;
+    for (field, name) in [("overlay", "o.dts"), ("defs", "h"), ("text", "t")] {
+        if let Some(bytes) = row.bytes(field) {
+            held.push(file(alloc, name, bytes)?)?;
+        }
+    }
+    Ok(MemFiles::new(held, numbers_of(alloc, row, "calls")?))
 }
 
 /// A file of this name with these bytes.

@@ -1,9 +1,13 @@
-use Rattle.std.proofs.Common.{◌≡◌, None, Some, refl, subst, sym, arith, string_bytes}
+use Rattle.std.proofs.Common.{◌≡◌, None, Some, true, refl, subst, sym, arith, string_bytes}
 use Rattle.dts_print.specs.Printed.{printed}
+use Rattle.c_macro.specs.Table.{known_of}
 use Rattle.edt_run.specs.Answer.{done}
+use Rattle.edt_run.specs.Header.{header}
+use Rattle.edt_run.specs.Nodes.{forest_of}
+use Rattle.edt_run.specs.Promises.{writes_early}
 use Rattle.edt_run.specs.Job.{job_of}
 use Rattle.edt_run.specs.Steps.{IsWanted}
-use Rattle.edt_run.proofs.RunLaws.{ran_refusal, ran_usage, ran_memory, ran_write_failed, is_job}
+use Rattle.edt_run.proofs.RunLaws.{ran_cut, ran_done, ran_refusal, ran_said, ran_usage, ran_memory, ran_write_failed, is_job, text_plain}
 use Rattle.edt_run.proofs.top.carry_out.Goals as goal
 
 pub returns-in-Err : goal.returns-in-Err
@@ -19,16 +23,42 @@ returns-in-Err-decide g c =
     let named : Some c.in-Ok-Some.job ≡ job_of c.args.words.now = rw c.in-Ok-Some.field-0-is at c.in-Ok-Some.ensures in
     ran_memory _ (is_job _ _ named) (c.decide.ensures.held, c.decide.ensures.count) refl c.say-in-Err-decide.ensures
 
-pub returns-in-Ok-Refusal : goal.returns-in-Ok-Refusal
-returns-in-Ok-Refusal g c =
-    let named : Some c.in-Ok-Some.job ≡ job_of c.args.words.now = rw c.in-Ok-Some.field-0-is at c.in-Ok-Some.ensures in
-    ran_refusal _ c.in-Ok-Refusal.status (string_bytes c.in-Ok-Refusal.line)
-    (rw named at (rw c.in-Ok-Refusal.field-0-is at c.in-Ok-Refusal.ensures.wanted))
-    (is_job _ _ named) (c.decide.ensures.held, c.decide.ensures.count) refl (rw c.as_str.ensures.value at c.say-in-Ok-Refusal.ensures)
-
 pub returns-in-Ok-Source : goal.returns-in-Ok-Source
 returns-in-Ok-Source g c =
     let named : Some c.in-Ok-Some.job ≡ job_of c.args.words.now = rw c.in-Ok-Some.field-0-is at c.in-Ok-Some.ensures in
     ran_write_failed _ (done (printed c.in-Ok-Source.tree)) (subst (λ o. IsWanted (g.F.Files.seen c.args.files.now) (g.F.Files.seen c.decide.new.files) o (done (printed c.in-Ok-Source.tree))) named
     (rw c.in-Ok-Source.field-0-is at c.in-Ok-Source.ensures.wanted))
     (is_job _ _ named) (c.decide.ensures.held, c.decide.ensures.count) c.in-Err-print.ensures c.say-in-Err-print.ensures
+
+pub returns-in-Ok-Refused : goal.returns-in-Ok-Refused
+returns-in-Ok-Refused g c =
+    let named : Some c.in-Ok-Some.job ≡ job_of c.args.words.now = rw c.in-Ok-Some.field-0-is at c.in-Ok-Some.ensures in
+    ran_refusal _ c.in-Ok-Refused.said.status (string_bytes c.in-Ok-Refused.said.line)
+    (rw named at (rw c.in-Ok-Refused.field-0-is at c.in-Ok-Refused.ensures.wanted))
+    (is_job _ _ named) (c.decide.ensures.held, c.decide.ensures.count) refl (rw c.as_str.ensures.value at c.say-in-Ok-Refused.ensures)
+
+pub returns-in-Memory : goal.returns-in-Memory
+returns-in-Memory g c =
+    let named : Some c.in-Ok-Some.job ≡ job_of c.args.words.now = rw c.in-Ok-Some.field-0-is at c.in-Ok-Some.ensures in
+    let lines = rw c.in-Ok-Lines.field-0-is at c.in-Ok-Lines.ensures.wanted in
+    let end = rw c.as_slice.ensures at c.in-Memory.ensures in
+    ran_cut _ end.0 end.1 end.2 (subst (λ o. writes_early o ≡ true) named lines.0)
+    (text_plain (known_of c.in-Ok-Lines.defs) c.in-Ok-Lines.name c.in-Ok-Lines.text end.0 end.3)
+    (subst (λ o. IsWanted (g.F.Files.seen c.args.files.now) (g.F.Files.seen c.decide.new.files) o end.0) named (lines.1 end.0 end.3))
+    (is_job _ _ named) (c.decide.ensures.held, c.decide.ensures.count) end.4 end.5 c.say-in-Memory.ensures
+
+pub returns-in-Ok : goal.returns-in-Ok
+returns-in-Ok g c =
+    let named : Some c.in-Ok-Some.job ≡ job_of c.args.words.now = rw c.in-Ok-Some.field-0-is at c.in-Ok-Some.ensures in
+    ran_done _ (header (forest_of c.in-Ok-Header.nodes.items))
+    (subst (λ o. IsWanted (g.F.Files.seen c.args.files.now) (g.F.Files.seen c.decide.new.files) o (done (header (forest_of c.in-Ok-Header.nodes.items)))) named
+    (rw c.in-Ok-Header.field-0-is at c.in-Ok-Header.ensures.wanted))
+    (is_job _ _ named) (c.decide.ensures.held, c.decide.ensures.count) (rw c.as_slice-in-Ok-Header.ensures.value at c.in-Ok.ensures) c.say-in-Ok.ensures
+
+pub returns : goal.returns
+returns g c =
+    let named : Some c.in-Ok-Some.job ≡ job_of c.args.words.now = rw c.in-Ok-Some.field-0-is at c.in-Ok-Some.ensures in
+    ran_write_failed _ (done (header (forest_of c.in-Ok-Header.nodes.items)))
+    (subst (λ o. IsWanted (g.F.Files.seen c.args.files.now) (g.F.Files.seen c.decide.new.files) o (done (header (forest_of c.in-Ok-Header.nodes.items)))) named
+    (rw c.in-Ok-Header.field-0-is at c.in-Ok-Header.ensures.wanted))
+    (is_job _ _ named) (c.decide.ensures.held, c.decide.ensures.count) (rw c.as_slice-in-Ok-Header.ensures.value at c.in-Err-emit.ensures) c.say-in-Err-emit.ensures

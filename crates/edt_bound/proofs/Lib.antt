@@ -1,0 +1,3 @@
+pub mod AddressSteps
+pub mod MatchSteps
+pub mod PhaseSteps

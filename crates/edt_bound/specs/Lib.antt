@@ -1,0 +1,6 @@
+pub mod Addresses
+pub mod BoundTree
+pub mod Ordering
+pub mod Phases
+pub mod Requiring
+pub mod Typing

@@ -1,0 +1,9 @@
+//! The bound tree.
+#![tactic(auto)]
+
+mod addresses;
+mod matching;
+mod ordering;
+mod typing;
+
+pub use matching::matches;
