@@ -2,5 +2,6 @@ pub mod Addresses
 pub mod BoundTree
 pub mod Ordering
 pub mod Phases
+pub mod Relating
 pub mod Requiring
 pub mod Typing
