@@ -1,5 +1,6 @@
 pub mod Addresses
 pub mod BoundTree
+pub mod Gathering
 pub mod Ordering
 pub mod Phases
 pub mod Relating

@@ -2,6 +2,7 @@
 #![tactic(auto)]
 
 mod addresses;
+mod instances;
 mod matching;
 mod ordering;
 mod relations;
