@@ -2,8 +2,10 @@
 #![tactic(auto)]
 
 mod addresses;
+mod instances;
 mod matching;
 mod ordering;
+mod relations;
 mod typing;
 
 pub use matching::matches;
