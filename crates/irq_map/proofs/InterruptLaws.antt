@@ -1,5 +1,6 @@
 -- Interrupts, one after another.
-use Rattle.std.proofs.Common.{◌≡◌, ◌∙◌, ◌∷◌, ◌++◌, ◌+◌, ◌<◌, [], ℕ, Bool, true, List, Option, Some, None, Result, Ok, Err, IfErr, codes, is_some, length, refl, sym, ap, subst, append_assoc, append-nil, length-append, if◌then◌else◌}
+use Rattle.std.proofs.Common.{◌≡◌, ◌∙◌, ◌∷◌, ◌++◌, ◌+◌, ◌<◌, [], ℕ, Bool, true, List, Option, Some, None, Result, Ok, Err, IfErr, codes, is_some, length, refl, sym, ap, subst, append_assoc, All, append-nil, length-append, if◌then◌else◌}
+use Rattle.std.proofs.lemmas.List.Elements.{All-append, All-cons, All-nil, All-tail}
 use Rattle.edt_base.specs.EntryData.{EntryData}
 use Rattle.edt_base.specs.NodeData.{NodeData}
 use Rattle.edt_base.specs.Nodes.{prop_at}
@@ -25,6 +26,22 @@ at_controller nodes lib space name hop entry same there named at =
     ap (λ (t : Bool). if t then counted (is_gic nodes hop.node) (with_names hop name (cell_names nodes lib interrupt hop.node)) else Err rule.V31) there
     ∙ (ap (counted (is_gic nodes hop.node)) here
     ∙ ap (λ (node : ℕ). counted_by entry (rise_at (is_gic nodes node) entry.cells)) (sym at))
+
+-- ---- the nodes of specifiers and of interrupts are there
+
+abbrev pub IsBelow : ℕ → Hop → Type 0
+IsBelow count s = s.node < count
+
+abbrev pub IsIrqBelow : ℕ → EntryData → Type 0
+IsIrqBelow count irq = irq.controller < count
+
+pub all_after : (count : ℕ) (left next : List Hop) (hop : Hop) → left ≡ hop ∷ next → All (IsBelow count) left → All (IsBelow count) next
+all_after count left next hop e all = All-tail (IsBelow count) hop next (subst (All (IsBelow count)) e all)
+
+pub all_irqs : (count : ℕ) (items more : List EntryData) (irq : EntryData) → All (IsIrqBelow count) items → irq.controller < count
+    → more ≡ items ++ irq ∷ [] → All (IsIrqBelow count) more
+all_irqs count items more irq all there e = subst (All (IsIrqBelow count)) (sym e)
+    (All-append (IsIrqBelow count) items (irq ∷ []) all (All-cons (IsIrqBelow count) irq [] there (All-nil (IsIrqBelow count))))
 
 -- ---- one after another
 
