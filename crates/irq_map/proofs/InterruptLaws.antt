@@ -1,5 +1,5 @@
 -- Interrupts, one after another.
-use Rattle.std.proofs.Common.{◌≡◌, ◌∙◌, ◌∷◌, ◌++◌, ◌+◌, ◌<◌, [], ℕ, Bool, true, List, Option, Some, None, Result, Ok, Err, IfErr, codes, is_some, length, refl, sym, ap, subst, append_assoc, All, append-nil, length-append, if◌then◌else◌}
+use Rattle.std.proofs.Common.{◌≡◌, ◌∙◌, ◌∷◌, ◌++◌, ◌+◌, ◌<◌, [], ℕ, Bool, true, List, Option, Result, Ok, Err, codes, is_some, length, refl, sym, ap, subst, append_assoc, All, append-nil, length-append, if◌then◌else◌}
 use Rattle.std.proofs.lemmas.List.Elements.{All-append, All-cons, All-nil, All-tail}
 use Rattle.edt_base.specs.EntryData.{EntryData}
 use Rattle.edt_base.specs.NodeData.{NodeData}
@@ -61,12 +61,6 @@ step nodes lib unit parts at left next hop name q l n e =
     ∙ ap (λ (r : Result EntryData Rule). and_rest r (irqs_from nodes lib unit parts (at + 1) next))
     (ap (λ (m : Option (List ℕ)). irq_of nodes lib unit m hop) (sym n) ∙ e)
 
-pub irq_bad : (nodes : List NodeData) (lib : LibData) (unit : Option (List ℕ)) (parts : List Part) (all left next : List Hop) (hop : Hop) (name : Option (List ℕ)) (items : List EntryData) (b : Rule)
-    → left ≡ hop ∷ next → name ≡ entry_name parts (length items) → irq_of nodes lib unit name hop ≡ Err b
-    → joined items (irqs_from nodes lib unit parts (length items) left) ≡ irqs_from nodes lib unit parts 0 all → irqs_from nodes lib unit parts 0 all ≡ Err b
-irq_bad nodes lib unit parts all left next hop name items b l n e inv =
-    sym inv ∙ ap (joined items) (step nodes lib unit parts (length items) left next hop name (Err b) l n e)
-
 pub irq_read : (nodes : List NodeData) (lib : LibData) (unit : Option (List ℕ)) (parts : List Part) (all left next : List Hop) (hop : Hop) (name : Option (List ℕ)) (items more : List EntryData) (irq : EntryData)
     → left ≡ hop ∷ next → name ≡ entry_name parts (length items) → irq_of nodes lib unit name hop ≡ Ok irq → more ≡ items ++ irq ∷ []
     → joined items (irqs_from nodes lib unit parts (length items) left) ≡ irqs_from nodes lib unit parts 0 all
@@ -77,8 +71,3 @@ irq_read nodes lib unit parts all left next hop name items more irq l n e m inv 
     ∙ (ap (λ (xs : List EntryData). joined xs (irqs_from nodes lib unit parts (length items + 1) next)) m
     ∙ (sym (joined_next items irq (irqs_from nodes lib unit parts (length items + 1) next))
     ∙ (ap (joined items) (sym (step nodes lib unit parts (length items) left next hop name (Ok irq) l n e)) ∙ inv)))
-
-pub irqs_all : (nodes : List NodeData) (lib : LibData) (unit : Option (List ℕ)) (parts : List Part) (all left : List Hop) (items : List EntryData) → left ≡ []
-    → joined items (irqs_from nodes lib unit parts (length items) left) ≡ irqs_from nodes lib unit parts 0 all → irqs_from nodes lib unit parts 0 all ≡ Ok items
-irqs_all nodes lib unit parts all left items l inv =
-    sym inv ∙ (ap (joined items) (ap (irqs_from nodes lib unit parts (length items)) l) ∙ ap (λ (xs : List EntryData). Ok xs) (append-nil items))

@@ -1,5 +1,5 @@
 -- Specifiers, as they are read one after another.
-use Rattle.std.proofs.Common.{◌≡◌, ◌∙◌, ◌∷◌, ◌++◌, ◌*◌, ◌+◌, ◌-◌, ◌<◌, ◌≤◌, ◌%◌, ◌^◌, [], ℕ, zero, suc, Bool, true, false, List, Option, Some, None, Result, Ok, Err, All, drop, length, map, min, nat_eq, refl, sym, ap, subst, arith, append_assoc, append-nil, if◌then◌else◌}
+use Rattle.std.proofs.Common.{◌≡◌, ◌∙◌, ◌∷◌, ◌++◌, ◌*◌, ◌+◌, ◌-◌, ◌<◌, ◌%◌, ◌^◌, [], ℕ, zero, suc, Bool, true, false, List, Option, Some, None, Result, Ok, Err, All, drop, length, map, min, nat_eq, refl, sym, ap, subst, arith, append_assoc, append-nil}
 use Rattle.std.proofs.lemmas.Bool.Decides.{nat_tests}
 use Rattle.std.proofs.lemmas.List.Elements.{All-append, All-cons, All-nil}
 use Rattle.edt_base.specs.Cells.{cells_of}
@@ -12,24 +12,16 @@ use Rattle.bind_merge.specs.Options.{first_some, or_else}
 use Rattle.pha_nexus.specs.Cutting.{and_entries, cells_behind, cut_after, first_entry}
 use Rattle.pha_nexus.specs.Naming.{and_rest}
 use Rattle.pha_nexus.specs.Passing.{Hop}
-use Rattle.pha_nexus.proofs.CellLaws.{cells_fill, cells_fit}
+use Rattle.pha_nexus.proofs.CellLaws.{cells_fill}
 use Rattle.reg_ranges.specs.Cutting.{are_whole}
 use Rattle.irq_map.specs.Written.{all_of, interrupt, specified}
 
 -- ---- the first answer from a node upward
 
-pub found_here : {B : Type 0} (f : ℕ → Option B) (at : ℕ) (above : List ℕ) (b : B) → f at ≡ Some b → first_some f (at ∷ above) ≡ Some b
-found_here f at above b e = ap (λ o. or_else o (first_some f above)) e
-
 pub found_above : {B : Type 0} (f : ℕ → Option B) (t : TreeData) (at up : ℕ) → IsWellFormed t → f at ≡ None → parent_of t.nodes at ≡ Some up
     → first_some f (at ∷ ancestors t.nodes at) ≡ first_some f (up ∷ ancestors t.nodes up)
 found_above f t at up well none parent =
     ap (λ o. or_else o (first_some f (ancestors t.nodes at))) none ∙ ap (first_some f) (above t at up well parent)
-
-pub found_nowhere : {B : Type 0} (f : ℕ → Option B) (t : TreeData) (at : ℕ) → f at ≡ None → parent_of t.nodes at ≡ None
-    → first_some f (at ∷ ancestors t.nodes at) ≡ None
-found_nowhere f t at none root =
-    ap (λ o. or_else o (first_some f (ancestors t.nodes at))) none ∙ ap (first_some f) (above_root t at root)
 
 -- ---- the nodes of specifiers are there
 
@@ -43,9 +35,9 @@ all_more count items more s all there e = subst (All (IsBelow count)) (sym e)
 
 -- ---- whole specifiers
 
-pub whole_some : (width len : ℕ) (bs cells : List ℕ) → cells ≡ cells_of bs → len ≡ min (length bs) (2 ^ 64 - 1) → 4 * length cells < 2 ^ 63
+pub whole_len : (len : ℕ) (bs cells : List ℕ) → cells ≡ cells_of bs → len ≡ min (length bs) (2 ^ 64 - 1) → 4 * length cells < 2 ^ 63
     → len ≡ length bs
-whole_some width len bs cells e l few =
+whole_len len bs cells e l few =
     let n : length cells ≡ length (cells_of bs) = ap length e in
     let high : length bs < 4 * length (cells_of bs) + 4 = cells_fill bs in
     l ∙ omega arith
@@ -53,10 +45,6 @@ whole_some width len bs cells e l few =
 pub is_whole_by : (width bytes : ℕ) → 0 < width → nat_eq (bytes % (4 * width)) 0 ≡ are_whole width bytes
 is_whole_by zero bytes some = absurd (omega arith)
 is_whole_by (suc n) bytes some = refl
-
-pub no_cells : (bytes : List ℕ) → are_whole 0 (length bytes) ≡ true → cells_of bytes ≡ []
-no_cells [] e = refl
-no_cells (b ∷ bs) e = let no : ⊥ = grind (arith, nat_tests) in absurd no
 
 -- ---- entries of `interrupts-extended`, read one at a time
 
@@ -110,14 +98,3 @@ written_next nodes rest cells left cs next c hop items more l e n m inv =
     ∙ (ap (λ (xs : List ℕ). joined (items ++ hop ∷ []) (written_left nodes rest xs)) n
     ∙ (sym (joined_next items hop (written_left nodes rest (drop (length hop.spec) cs)))
     ∙ (ap (joined items) (sym (ap (written_left nodes rest) l ∙ after_good nodes rest cs (first_entry nodes interrupt c cs) hop e)) ∙ inv)))
-
-pub written_rest : (nodes : List NodeData) (rest : Bool) (cells left : List ℕ) (items : List Hop) → left ≡ [] → rest ≡ true
-    → joined items (written_left nodes rest left) ≡ written_left nodes rest cells → written_left nodes rest cells ≡ Err rule.V20
-written_rest nodes rest cells left items l r inv =
-    sym inv ∙ ap (joined items) (ap (written_left nodes rest) l ∙ ap (λ (t : Bool). written_left nodes t []) r)
-
-pub written_all : (nodes : List NodeData) (rest : Bool) (cells left : List ℕ) (items : List Hop) → left ≡ [] → rest ≡ false
-    → joined items (written_left nodes rest left) ≡ written_left nodes rest cells → written_left nodes rest cells ≡ Ok items
-written_all nodes rest cells left items l r inv =
-    sym inv ∙ (ap (joined items) (ap (written_left nodes rest) l ∙ ap (λ (t : Bool). written_left nodes t []) r)
-    ∙ ap (λ (xs : List Hop). Ok xs) (append-nil items))

@@ -1,4 +1,4 @@
-use Rattle.std.proofs.Common.{◌≡◌, IfErr, Result, Ok, codes, is_some, rules, subst, sym, true}
+use Rattle.std.proofs.Common.{◌≡◌, IfErr, Result, codes, is_some, rules, subst, sym, true}
 use Rattle.edt_base.specs.EntryData.{EntryData}
 use Rattle.edt_base.specs.Nodes.{prop_at}
 use Rattle.edt_base.specs.Refusals.{IsStop}

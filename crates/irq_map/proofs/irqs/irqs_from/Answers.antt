@@ -1,7 +1,5 @@
-use Rattle.std.proofs.Common.{rules, ◌≡◌, ◌<◌, ◌∙◌, ◌∷◌, ◌++◌, [], All, List, Option, length, ap, option_map}
-use Rattle.edt_base.specs.EntryData.{EntryData}
+use Rattle.std.proofs.Common.{rules, ◌≡◌, ◌∷◌, ◌++◌, [], length, option_map}
 use Rattle.edt_base.specs.Values.{entry_name, name_parts}
-use Rattle.pha_nexus.specs.Passing.{Hop}
 use Rattle.irq_map.proofs.InterruptLaws.{all_after, all_irqs, irq_read}
 use Rattle.irq_map.proofs.irqs.irqs_from.Goals as goal
 

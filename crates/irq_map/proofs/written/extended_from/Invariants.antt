@@ -1,6 +1,5 @@
 use Rattle.std.proofs.Common.{◌≡◌, ◌<◌, All, length}
 use Rattle.pha_nexus.specs.Passing.{Hop}
-use Rattle.irq_map.specs.Written.{interrupt}
 use Rattle.irq_map.proofs.WrittenLaws.{joined, written_left}
 use Rattle.irq_map.proofs.written.extended_from.Given as goal
 

@@ -1,4 +1,4 @@
-use Rattle.std.proofs.Common.{rules, ◌≡◌, ◌∙◌, ◌<◌, ◌++◌, ◌∷◌, [], ℕ, List, ap, arith, drop, length, min, take}
+use Rattle.std.proofs.Common.{rules, ◌≡◌, ◌∙◌, ◌<◌, ◌++◌, ◌∷◌, [], ℕ, List, ap, drop, length, min, take}
 use Rattle.std.proofs.lemmas.List.{drop_min, take_min}
 use Rattle.pha_nexus.specs.Passing.{Hop}
 use Rattle.reg_ranges.proofs.EntryLaws.{read_more}
