@@ -1,0 +1,3 @@
+pub mod ApiText
+pub mod Defining
+pub mod Laws

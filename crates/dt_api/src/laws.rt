@@ -1,0 +1,20 @@
+//! Laws of the API text, as contracts.
+
+ghost use Rattle.std.specs.Prelude.{◌≡◌};
+ghost use Rattle.dt_api.specs.ApiText.{api_text};
+ghost use Rattle.dt_api.specs.Laws.{ApiTextIsRead};
+
+use crate::text::API_TEXT;
+
+/// `API_TEXT`, known to contracts as the lines that the definitions speak of. Takes no memory.
+pub fn api_text() -> &'static str
+    ensures { result.now ≡ api_text }
+{
+    API_TEXT
+}
+
+/// The API text is read line by line: it has no line that isn't made of tokens, its lines define
+/// what each defines by itself, and no name is defined twice.
+pub fn the_api_text_is_read()
+    ensures { ApiTextIsRead }
+{}
