@@ -1,1 +1,4 @@
+pub mod BodyReads
+pub mod PieceReads
 pub mod Reading
+pub mod TokenReads

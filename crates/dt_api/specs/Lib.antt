@@ -1,3 +1,4 @@
 pub mod ApiText
 pub mod Defining
+pub mod HeaderDefs
 pub mod Laws
