@@ -188,25 +188,27 @@ elem_thing path name i = subst IsThing (sym (elem_is path name i)) (record {
 
 -- ---- bodies
 
+-- the first token, if there is one, stands behind white space
+abbrev pub is_spaced : List Tok → Bool
+is_spaced [] = true
+is_spaced (t ∷ ts) = t.spaced
+
 -- a body behind white space
 pub record IsBody (variadic : Bool) (body : List PieceData) : Type 0 where
   pub toks : List Tok
   pub fine : AreFine variadic toks
+  pub first : is_spaced toks ≡ true
   pub reads : Reads true (spells body) toks
 
 pub body_none : (variadic : Bool) → IsBody variadic []
 unfolding spells
-body_none variadic = record { toks = []; fine = refl; reads = reads_none true }
-
--- the tokens behind white space of those that stand behind none
-abbrev pub spaced_first : List Tok → List Tok
-spaced_first [] = []
-spaced_first (t ∷ ts) = respaced true t ∷ ts
+body_none variadic = record { toks = []; fine = refl; first = refl; reads = reads_none true }
 
 pub body_token : (variadic : Bool) (body : List PieceData) (t : Tok) → spells body ≡ t.spell → IsToken t → is_fine variadic (respaced true t) ≡ true → IsBody variadic body
 body_token variadic body t e is fine = record {
   toks = respaced true t ∷ [];
   fine = and_from _ _ fine refl;
+  first = refl;
   reads = subst (λ z. Reads true z (respaced true t ∷ [])) (append-nil t.spell ∙ sym e) (reads_token true t [] [] is refl (reads_none false));
 }
 
@@ -262,6 +264,7 @@ body_ords variadic (o ∷ os) =
     record {
       toks = a_number true (decimal o) ∷ comma false ∷ further_toks os;
       fine = fine_all variadic (a_number true (decimal o) ∷ comma false ∷ further_toks os) (further_fine os);
+      first = refl;
       reads = reads_token true (a_number true (decimal o)) (44 ∷ spells (further os)) _ (decimal_token true o) refl behind;
     }
 
@@ -334,6 +337,7 @@ unfolding spells
 body_braces variadic [] h = record {
   toks = opening true ∷ closing ∷ [];
   fine = fine_all variadic (opening true ∷ closing ∷ []) refl;
+  first = refl;
   reads = reads_token true (opening false) (125 ∷ []) (closing ∷ []) (sign_token false (codes "{") refl refl) refl
       (reads_token false closing [] [] (sign_token false (codes "}") refl refl) refl (reads_none false));
 }
@@ -343,6 +347,7 @@ body_braces variadic (v ∷ vs) h =
     record {
       toks = toks;
       fine = fine_all variadic toks (and_from _ _ (h.0.fine false) (others_fine vs h.1));
+      first = refl;
       reads = subst (λ z. Reads true z toks) (sym (braces_is v vs)) (reads_sign true 123 (spell v ++ spells (others vs)) _ refl refl value);
     }
 
@@ -457,10 +462,12 @@ later_fine ps (t ∷ ts) h =
     (fine_append (is_variadic ps) (visit_toks true ps h.0.toks) (later_toks ps ts h.1) (visit_fine true ps h.0.toks h.0.fine) (later_fine ps ts h.1))
 
 pub body_visits : (ps : Params) (ts : List (List PieceData)) → AreThings ts → IsBody (is_variadic ps) (visits ps ts)
+unfolding visit_toks
 body_visits ps [] h = body_none (is_variadic ps)
 body_visits ps (t ∷ ts) h = record {
   toks = visit_toks true ps h.0.toks ++ later_toks ps ts h.1;
   fine = fine_append (is_variadic ps) (visit_toks true ps h.0.toks) (later_toks ps ts h.1) (visit_fine true ps h.0.toks h.0.fine) (later_fine ps ts h.1);
+  first = refl;
   reads = subst (λ z. Reads true z (visit_toks true ps h.0.toks ++ later_toks ps ts h.1)) (sym (spells_append (visit ps t) (later ps ts)))
       (visit_reads true ps t h.0 (spells (later ps ts)) (later_toks ps ts h.1) (later_reads ps ts h.1));
 }

@@ -1,4 +1,6 @@
 pub mod BodyReads
+pub mod HeaderLines
+pub mod HeaderTable
 pub mod PieceReads
 pub mod Reading
 pub mod TokenReads

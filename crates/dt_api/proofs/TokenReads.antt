@@ -59,11 +59,11 @@ read_last spaced t is =
     let l : lexed_behind false 0 (drop (length t.spell) t.spell) ≡ lexed_end false = ap (lexed_behind false 0) (drop-length t.spell) ∙ lexed_none [] false refl in
     ap (lexed_behind spaced 0) (append-nil t.spell) ∙ (rw (whole, is.utf8, l) at e)
 
-abbrev toks_read : Option Lexed → List Tok
+abbrev pub toks_read : Option Lexed → List Tok
 toks_read None = []
 toks_read (Some l) = l.toks
 
-nothing : {ts us : List Tok} → read_as ts ≡ read_as us → ts ≡ us
+pub nothing : {ts us : List Tok} → read_as ts ≡ read_as us → ts ≡ us
 nothing e = ap toks_read e
 
 -- a token before bytes that don't continue it

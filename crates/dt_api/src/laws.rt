@@ -2,6 +2,7 @@
 
 ghost use Rattle.std.specs.Prelude.{◌≡◌};
 ghost use Rattle.dt_api.specs.ApiText.{api_text};
+ghost use Rattle.dt_api.specs.HeaderLaw.{LinesAreRead};
 ghost use Rattle.dt_api.specs.Laws.{ApiTextIsRead};
 
 use crate::text::API_TEXT;
@@ -17,4 +18,11 @@ pub fn api_text() -> &'static str
 /// what each defines by itself, and no name is defined twice.
 pub fn the_api_text_is_read()
     ensures { ApiTextIsRead }
+{}
+
+/// Each definition of a header is read from its line: the line is made of tokens, and is the
+/// directive that defines the definition's name with its parameters and the tokens of its body. The
+/// texts that stand in string literals are to be made of bytes.
+pub fn header_lines_are_read()
+    ensures { LinesAreRead }
 {}
