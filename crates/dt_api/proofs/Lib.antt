@@ -1,4 +1,5 @@
 pub mod BodyReads
+pub mod DefineSteps
 pub mod HeaderLines
 pub mod HeaderTable
 pub mod PieceReads

@@ -3,7 +3,7 @@ use Rattle.std.proofs.Common.{◌≡◌, ◌∙◌, ◌+◌, ◌<◌, ◌++◌, 
 use Rattle.std.specs.List.{cons_option, filter_map, list_all}
 use Rattle.std.specs.Option.{option_and_then}
 use Rattle.std.specs.Str.{is_utf8, chars}
-use Rattle.std.proofs.lemmas.Bool.{cases_Bool, and_parts}
+use Rattle.std.proofs.lemmas.Bool.{and_from, and_parts, cases_Bool}
 use Rattle.c_tokens.specs.declared.tok.Tok.{Tok}
 use Rattle.c_tokens.specs.LineData.{LineData}
 use Rattle.c_tokens.specs.Lexed.{Lexed, lexed, lexed_behind}
@@ -147,6 +147,23 @@ names_differ = refl
 
 abbrev pub api_rows : List LineData
 api_rows = lines_of 1 api_lines
+
+abbrev pub is_fine_line : LineData → Bool
+is_fine_line line = is_fine (line_directive line)
+
+fine_row : (number : ℕ) (o : Option Lexed) → is_whole o ≡ true → is_fine_line (row_line number o) ≡ true
+fine_row number None h = cc
+fine_row number (Some l) h = let p : (not l.unclosed ≡ true) × (is_fine (line_directive (row_line 0 (Some l))) ≡ true) = and_parts _ _ h in p.1
+
+fine_rows : (number : ℕ) (rows : List (List ℕ)) → list_all is_row rows ≡ true → list_all is_fine_line (lines_of number rows) ≡ true
+fine_rows number [] h = refl
+fine_rows number (row ∷ rows) h =
+    let p : (is_row row ≡ true) × (list_all is_row rows ≡ true) = and_parts _ _ h in
+    let q : (list_all is_plain row ≡ true) × (is_whole (lexed false row) ≡ true) = and_parts _ _ p.0 in
+    and_from _ _ (fine_row number (lexed false row) q.1) (fine_rows (number + 1) rows p.1)
+
+pub rows_are_fine : list_all is_fine_line api_rows ≡ true
+rows_are_fine = fine_rows 1 api_lines are_rows
 
 pub api_read : LinesOf (record { rest = api_text; number = 1 }) api_rows (AtEnd 128)
 api_read = read_rows 1 api_lines are_rows

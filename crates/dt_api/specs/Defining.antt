@@ -1,6 +1,6 @@
 -- What lines of C text define, and what is known behind definitions.
 use Rattle.std.specs.Prelude.{◌≡◌, ◌++◌, ℕ, List, Option, Some, None, drop, false, if◌then◌else◌}
-use Rattle.std.specs.List.{Contains, filter_map}
+use Rattle.std.specs.List.{All, Contains, filter_map}
 use Rattle.std.specs.Map.{lookup}
 use Rattle.std.specs.Option.{option_and_then}
 use Rattle.std.specs.Str.{bytes_eq}
@@ -44,7 +44,7 @@ pub record IsKnownWith (k : Known) (ds : List Definition) (k' : Known) : Type 0 
 
 -- none of these names has another macro
 abbrev pub AreAllowed : Known → List Definition → Type 0
-AreAllowed k ds = (name : List ℕ) (m : Macro) → Contains ds (name, m) → redefined (k.defs name) m ≡ None
+AreAllowed k ds = All (λ (d : Definition). redefined (k.defs d.0) d.1 ≡ None) ds
 
 -- one of these names has another macro
 pub record HasOther (k : Known) (ds : List Definition) : Type 0 where

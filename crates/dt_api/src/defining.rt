@@ -25,11 +25,8 @@ pub fn defs(alloc: Global, d: &mut Defs) -> Result<(), CEnd>
         (AreKnownTo (known_of d.old) api_definitions (known_of d.new)) }
 {
     let mut lines = Lines::new(api_text().as_bytes());
-    loop {
-        match lines.next(alloc) {
-            Ok(Some(line)) => d.apply(&line)?,
-            Ok(None) => return Ok(()),
-            Err(end) => return Err(end),
-        }
+    while let Some(line) = lines.next(alloc)? {
+        d.apply(&line)?;
     }
+    Ok(())
 }
