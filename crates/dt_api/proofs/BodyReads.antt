@@ -154,8 +154,8 @@ word_reads (b ∷ bs) rest more all fresh h =
     let p : (is_word_byte b ≡ true) × (list_all is_word_byte bs ≡ true) = and_parts _ _ all in
     let behind = comma_reads false rest more fresh h in
     elim (cases_Bool (is_letter b)) [
-    | inl e ↦ rw e (reads_token true (a_word true (b ∷ bs)) (44 ∷ rest) (comma false ∷ more) (word_token true (b ∷ bs) (and_from _ _ e p.1)) refl behind)
-    | inr e ↦ rw e (reads_token true (a_number true (b ∷ bs)) (44 ∷ rest) (comma false ∷ more) (number_token true b bs (not_letter b p.0 e) p.1) refl behind)
+      | inl e ↦ rw e (reads_token true (a_word true (b ∷ bs)) (44 ∷ rest) (comma false ∷ more) (word_token true (b ∷ bs) (and_from _ _ e p.1)) refl behind)
+      | inr e ↦ rw e (reads_token true (a_number true (b ∷ bs)) (44 ∷ rest) (comma false ∷ more) (number_token true b bs (not_letter b p.0 e) p.1) refl behind)
     ]
 
 abbrev elem_toks : List ℕ → List ℕ → ℕ → List Tok
@@ -166,17 +166,17 @@ elem_reads : (path w : List ℕ) (i : ℕ) (rest : List ℕ) (more : List Tok) �
 elem_reads path w i rest more all fresh h =
     let id = spells (id_pieces path) in
     let last : Reads false (32 ∷ (decimal i ++ rest)) (a_number true (decimal i) ∷ more) =
-        reads_gap false (decimal i ++ rest) (a_number true (decimal i) ∷ more) (reads_token true (a_number true (decimal i)) rest more (decimal_token true i) fresh h) in
+    reads_gap false (decimal i ++ rest) (a_number true (decimal i) ∷ more) (reads_token true (a_number true (decimal i)) rest more (decimal_token true i) fresh h) in
     let word : Reads true (w ++ (44 ∷ 32 ∷ (decimal i ++ rest))) (word_toks w ++ (a_number true (decimal i) ∷ more)) =
-        word_reads w (32 ∷ (decimal i ++ rest)) (a_number true (decimal i) ∷ more) all refl last in
+    word_reads w (32 ∷ (decimal i ++ rest)) (a_number true (decimal i) ∷ more) all refl last in
     let first : Reads false (44 ∷ 32 ∷ (w ++ (44 ∷ 32 ∷ (decimal i ++ rest)))) (comma false ∷ (word_toks w ++ (a_number true (decimal i) ∷ more))) =
-        comma_reads false (32 ∷ (w ++ (44 ∷ 32 ∷ (decimal i ++ rest)))) _ refl (reads_gap false _ _ word) in
+    comma_reads false (32 ∷ (w ++ (44 ∷ 32 ∷ (decimal i ++ rest)))) _ refl (reads_gap false _ _ word) in
     let all_of : Reads false (id ++ (44 ∷ 32 ∷ (w ++ (44 ∷ 32 ∷ (decimal i ++ rest))))) (a_word false id ∷ comma false ∷ (word_toks w ++ (a_number true (decimal i) ∷ more))) =
-        reads_token false (a_word false id) (44 ∷ 32 ∷ (w ++ (44 ∷ 32 ∷ (decimal i ++ rest)))) _ (word_token false id (id_identifier path)) refl first in
+    reads_token false (a_word false id) (44 ∷ 32 ∷ (w ++ (44 ∷ 32 ∷ (decimal i ++ rest)))) _ (word_token false id (id_identifier path)) refl first in
     let bytes : id ++ (44 ∷ 32 ∷ (w ++ (44 ∷ 32 ∷ (decimal i ++ rest)))) ≡ elem_bytes path w i ++ rest =
-        ap (λ z. id ++ (44 ∷ 32 ∷ z)) (sym (append_assoc w (44 ∷ 32 ∷ decimal i) rest)) ∙ sym (append_assoc id (44 ∷ 32 ∷ (w ++ (44 ∷ 32 ∷ decimal i))) rest) in
+    ap (λ z. id ++ (44 ∷ 32 ∷ z)) (sym (append_assoc w (44 ∷ 32 ∷ decimal i) rest)) ∙ sym (append_assoc id (44 ∷ 32 ∷ (w ++ (44 ∷ 32 ∷ decimal i))) rest) in
     let toks : a_word false id ∷ comma false ∷ (word_toks w ++ (a_number true (decimal i) ∷ more)) ≡ elem_toks path w i ++ more =
-        ap (λ z. a_word false id ∷ comma false ∷ z) (sym (append_assoc (word_toks w) (a_number true (decimal i) ∷ []) more)) in
+    ap (λ z. a_word false id ∷ comma false ∷ z) (sym (append_assoc (word_toks w) (a_number true (decimal i) ∷ []) more)) in
     subst (λ z. Reads false z (elem_toks path w i ++ more)) bytes (subst (λ z. Reads false (id ++ (44 ∷ 32 ∷ (w ++ (44 ∷ 32 ∷ (decimal i ++ rest))))) z) toks all_of)
 
 pub elem_thing : (path name : List ℕ) (i : ℕ) → IsThing (spells (elem_visit path name i))

@@ -236,13 +236,15 @@ other_from old k before after name m r is e h =
     let five = only_c5 (k.defs name) m r h in
     let differ : all_differ (map name_of (before ++ (name, m) ∷ after)) ≡ true = subst (λ ds. all_differ (map name_of ds) ≡ true) e is_api_read.differ in
     let none = new_name name m before after differ in
-    let here : k.defs name ≡ old.defs name = is.defs name ∙ (ap (λ o. first_some (old.defs name) o) none ∙ first_none (old.defs name)) in
-    (five.0, record {
-      name = name;
-      macro = m;
-      there = subst (λ ds. Contains ds (name, m)) (sym e) (middle before after (name, m));
-      other = ap (λ o. redefined o m) (sym here) ∙ five.1;
-    })
+    let here : k.defs name ≡ old.defs name = is.defs name ∙ (ap (λ o. first_some (old.defs name) o) none ∙ first_none (old.defs name)) in (
+      five.0,
+      record {
+        name = name;
+        macro = m;
+        there = subst (λ ds. Contains ds (name, m)) (sym e) (middle before after (name, m));
+        other = ap (λ o. redefined o m) (sym here) ∙ five.1;
+      },
+    )
 
 broken_row : (old k : Known) (before after : List Definition) (d : Option Directive) (r : Rule) → IsKnownWith old before k → is_fine d ≡ true
     → api_definitions ≡ before ++ (filter_map (λ (o : Option Directive). defined_as o) (d ∷ []) ++ after) → broken_by k d ≡ Some r → (r ≡ rule.C5) × HasOther old api_definitions
@@ -258,8 +260,8 @@ broken old k u v line r g gives h =
     let one = one_line u v line at.before at.left at.lines gives in
     let whole : api_rows ≡ at.before ++ line ∷ one.rest = at.whole ∙ ap (λ ls. at.before ++ ls) one.is in
     let split : defined_in (at.before ++ line ∷ one.rest) ≡ defined_in at.before ++ (defined_in (line ∷ []) ++ defined_in one.rest) =
-        filter_map-append (λ (l : LineData). defined_as (line_directive l)) at.before (line ∷ one.rest)
-        ∙ ap (λ ds. defined_in at.before ++ ds) (filter_map-append (λ (l : LineData). defined_as (line_directive l)) (line ∷ []) one.rest) in
+    filter_map-append (λ (l : LineData). defined_as (line_directive l)) at.before (line ∷ one.rest)
+    ∙ ap (λ ds. defined_in at.before ++ ds) (filter_map-append (λ (l : LineData). defined_as (line_directive l)) (line ∷ []) one.rest) in
     broken_row old k (defined_in at.before) (defined_in one.rest) (line_directive line) r g.known (fine_here at.before line one.rest whole)
     (sym is_api_read.defined ∙ (ap defined_in whole ∙ split)) h
 

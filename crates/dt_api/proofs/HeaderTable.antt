@@ -93,8 +93,7 @@ path_rows nodes n x path name = (
 children_rows : (nodes : List NodeData) (n : ℕ) (path : List ℕ) (children : List ℕ) → AreRows (child_rows nodes n path children)
 children_rows nodes n path children =
     let all = walks n path (lit (codes "_FOREACH_CHILD") ∷ []) (map (id_at nodes) children) in
-    let okay = walks n path (lit (codes "_FOREACH_CHILD_STATUS_OKAY") ∷ []) (map (id_at nodes) (okay_of nodes children)) in
-    (
+    let okay = walks n path (lit (codes "_FOREACH_CHILD_STATUS_OKAY") ∷ []) (map (id_at nodes) (okay_of nodes children)) in (
       plain_row n path _ _ refl (body_number false _),
       (
         plain_row n path _ _ refl (body_number false _),
@@ -155,8 +154,7 @@ irq_rows n path i e =
 entry_rows : (n : ℕ) (path : List ℕ) (y : BoundNodeData) → AreRows (entry_facts n path y)
 entry_rows n path y =
     let irqs = each (irq_facts n path) 0 y.irqs in
-    let ranges = each (range_facts n path) 0 y.ranges in
-    (
+    let ranges = each (range_facts n path) 0 y.ranges in (
       plain_row n path _ _ refl (body_number false _),
       both_hold IsRow (each (reg_facts n path) 0 y.regs) _ (each_hold IsRow (reg_facts n path) (reg_rows n path) 0 y.regs) (
         plain_row n path _ _ refl (body_number false _),
@@ -358,8 +356,7 @@ number_things (k ∷ ks) = (subst IsThing (sym (append-nil (decimal k))) (number
 
 okay_rows : (nodes : List NodeData) (first : ℕ) (i : InstData) → AreRows (okay_facts nodes first i)
 okay_rows nodes first i =
-    let ids = take i.okay i.nodes in
-    (
+    let ids = take i.okay i.nodes in (
       tree_row first _ params.Plain yes refl refl body_yes,
       (
         tree_row first _ params.Plain _ refl refl (body_number false i.okay),
@@ -376,13 +373,12 @@ okay_rows nodes first i =
 inst_rows : (nodes : List NodeData) (i : InstData) → AreRows (inst_facts nodes i)
 inst_rows nodes i =
     let okay : AreRows (if nat_lt 0 i.okay then okay_facts nodes (unwrap_or (slice_get i.nodes 0) 0) i else []) =
-        elim (cases_Bool (nat_lt 0 i.okay)) [ inl e ↦ rw e (okay_rows nodes (unwrap_or (slice_get i.nodes 0) 0) i) | inr e ↦ rw e tt ] in
+    elim (cases_Bool (nat_lt 0 i.okay)) [ inl e ↦ rw e (okay_rows nodes (unwrap_or (slice_get i.nodes 0) 0) i) | inr e ↦ rw e tt ] in
     both_hold IsRow (each (place_fact nodes i.compat) 0 i.nodes) _ (each_hold IsRow (place_fact nodes i.compat) (place_rows nodes i.compat) 0 i.nodes) okay
 
 helper_rows : (nodes : List NodeData) → AreRows (helper_facts nodes)
 helper_rows nodes =
-    let all = range_with_len 0 (length nodes) in
-    (
+    let all = range_with_len 0 (length nodes) in (
       tree_row 0 _ params.Fn _ refl refl (body_visits params.Fn (map (id_at nodes) all) (id_things nodes all)),
       (tree_row 0 _ params.Fn _ refl refl (body_visits params.Fn (map (id_at nodes) (okay_of nodes all)) (id_things nodes (okay_of nodes all))), tt),
     )

@@ -58,8 +58,8 @@ onto zero n b bs d h = record { first = b; rest = bs; is = refl; first_digit = d
 onto (suc j) n b bs d h =
     let g : is_digit (digit_glyph false (n % 10)) ≡ true = glyph_digit (n % 10) (last_digit n) in
     elim (cases_Bool (nat_eq (n / 10) 0)) [
-    | inl e ↦ rw e (record { first = digit_glyph false (n % 10); rest = b ∷ bs; is = refl; first_digit = g; rest_digits = and_from _ _ d h })
-    | inr e ↦ rw e (onto j (n / 10) (digit_glyph false (n % 10)) (b ∷ bs) g (and_from _ _ d h))
+      | inl e ↦ rw e (record { first = digit_glyph false (n % 10); rest = b ∷ bs; is = refl; first_digit = g; rest_digits = and_from _ _ d h })
+      | inr e ↦ rw e (onto j (n / 10) (digit_glyph false (n % 10)) (b ∷ bs) g (and_from _ _ d h))
     ]
 
 decimal_digits : (n : ℕ) → Digits (decimal n)
@@ -67,8 +67,8 @@ unfolding digits
 decimal_digits n =
     let g : is_digit (digit_glyph false (n % 10)) ≡ true = glyph_digit (n % 10) (last_digit n) in
     elim (cases_Bool (nat_eq (n / 10) 0)) [
-    | inl e ↦ rw e (record { first = digit_glyph false (n % 10); rest = []; is = refl; first_digit = g; rest_digits = refl })
-    | inr e ↦ rw e (onto 63 (n / 10) (digit_glyph false (n % 10)) [] g refl)
+      | inl e ↦ rw e (record { first = digit_glyph false (n % 10); rest = []; is = refl; first_digit = g; rest_digits = refl })
+      | inr e ↦ rw e (onto 63 (n / 10) (digit_glyph false (n % 10)) [] g refl)
     ]
 
 digits_words : (w : List ℕ) → list_all is_digit w ≡ true → list_all is_word_byte w ≡ true

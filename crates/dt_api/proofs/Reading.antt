@@ -75,7 +75,6 @@ whole (Some l) e =
 text_cons : (row : List ℕ) (rows : List (List ℕ)) → text_of (row ∷ rows) ≡ row ++ 10 ∷ text_of rows
 text_cons row rows = append_assoc row (10 ∷ []) (text_of rows)
 
-
 abbrev unread : ℕ → List ℕ → Unread
 unread number text = record { rest = text; number = number }
 
@@ -94,6 +93,7 @@ read_one number row rest lines last h go =
     longer : (xs : List ℕ) → 0 < length (xs ++ 10 ∷ rest)
     longer [] = omega arith
     longer (b ∷ bs) = omega arith
+
     as_line : {toks : List Tok} → cut (row ++ 10 ∷ rest) ≡ ended row rest
         → LogicalLine false (row ++ 10 ∷ rest) (Some (record { toks = toks; rest = (cut (row ++ 10 ∷ rest)).rest; newlines = (cut (row ++ 10 ∷ rest)).newlines }))
         → LogicalLine false (row ++ 10 ∷ rest) (Some (record { toks = toks; rest = rest; newlines = 1 }))

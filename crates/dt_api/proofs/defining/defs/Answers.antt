@@ -8,7 +8,7 @@ use Rattle.dt_api.proofs.defining.defs.Goals as goal
 pub loop-line-init : goal.loop-line-init
 loop-line-init c =
     let start : c.new-lines.result ≡ record { rest = api_text; number = 1 } =
-        c.new-lines.ensures ∙ ap (λ text. record { rest = text; number = 1 }) (c.as_bytes.ensures.value ∙ c.api_text.ensures) in
+    c.new-lines.ensures ∙ ap (λ text. record { rest = text; number = 1 }) (c.as_bytes.ensures.value ∙ c.api_text.ensures) in
     subst (Going (known_of c.args.d.now) (known_of c.args.d.now)) (sym start) (started (known_of c.args.d.now))
 
 pub returns-in_err-line-clause-refused : goal.returns-in_err-line-clause-refused
