@@ -1,21 +1,21 @@
 -- What is known behind the first lines of the API text.
-use Rattle.std.proofs.Common.{◌≡◌, ◌∙◌, ◌⊎◌, ◌<◌, ◌++◌, ℕ, suc, Bool, true, false, not, ◌&&◌, List, [], ◌∷◌, Option, Some, None, Result, Ok, Err, IfErr, IsErrAnd, OnErr, cond, length, map, refl, sym, ap, subst, inl, inr, arith, append_assoc, append-nil, if◌then◌else◌}
-use Rattle.std.specs.List.{All, Contains, filter_map, list_all, list_any}
+use Rattle.std.proofs.Common.{◌≡◌, ◌∙◌, ◌<◌, ◌++◌, ℕ, suc, Bool, true, false, not, List, [], ◌∷◌, Option, Some, None, Result, Ok, Err, IfErr, IsErrAnd, OnErr, cond, length, map, refl, sym, ap, subst, inl, inr, arith, append_assoc, append-nil, if◌then◌else◌}
+use Rattle.std.specs.List.{Contains, filter_map, list_all, list_any}
 use Rattle.std.specs.Map.{lookup}
 use Rattle.std.specs.Str.{bytes_eq}
-use Rattle.std.proofs.lemmas.Bool.{cases_Bool, and_parts, and_from}
+use Rattle.std.proofs.lemmas.Bool.{cases_Bool, and_parts}
 use Rattle.std.proofs.lemmas.Slice.Eq.{bytes_eq-Decides}
 use Rattle.std.proofs.lemmas.List.Elements.{All-append, All-cons, All-nil, Contains-append_right, filter_map-append}
 use Rattle.std.proofs.lemmas.List.Folds.{list_all-append}
 use Rattle.edt_base.specs.declared.fault.Rule.{Rule}
 use Rattle.edt_base.specs.declared.fault.Rule.TheVariants as rule
 use Rattle.c_tokens.specs.LineData.{LineData}
-use Rattle.c_tokens.specs.Lines.{AtEnd, Ending, LinesOf, NoTokens, Unread, left_behind, line_of, no_more, one_more, refused}
+use Rattle.c_tokens.specs.Lines.{AtEnd, Ending, LinesOf, NoTokens, Unread, no_more, one_more, refused}
 use Rattle.c_tokens.specs.Reading.{Gives, HasNoTokens, IfRule}
 use Rattle.c_tokens.specs.declared.tok.CEnd.{CEnd}
 use Rattle.c_tokens.specs.declared.tok.CEnd.TheVariants as ending
 use Rattle.c_tokens.proofs.OneList.{one_list}
-use Rattle.c_macro.specs.Directive.{Define, Directive, Follows, Known, Nothing, Undefine, all_differ, broken_by, defs_after, first_some, line_directive, redefined, same_macro}
+use Rattle.c_macro.specs.Directive.{Define, Directive, Follows, Known, Nothing, Undefine, all_differ, broken_by, first_some, line_directive, redefined, same_macro}
 use Rattle.c_macro.specs.MacroData.{Macro}
 use Rattle.dt_api.specs.ApiText.{api_text}
 use Rattle.dt_api.specs.Defining.{AreAllowed, AreKnownTo, Definition, HasOther, IsKnownWith, api_definitions, defined_as}

@@ -1,24 +1,23 @@
 -- The line of a definition is read as a directive that defines it.
-use Rattle.std.proofs.Common.{◌≡◌, ◌∙◌, ◌++◌, ℕ, suc, Bool, true, false, not, ◌&&◌, ◌||◌, List, [], ◌∷◌, Option, Some, None, option_map, codes, drop, length, nat_eq, refl, sym, ap, subst, inl, inr, arith, append_assoc, if◌then◌else◌}
-use Rattle.std.specs.List.{Contains, list_all, list_any}
-use Rattle.std.proofs.lemmas.Bool.{cases_Bool, and_parts, and_from, eqb-true}
-use Rattle.edt_base.specs.BoundData.{BoundData}
+use Rattle.std.proofs.Common.{◌≡◌, ◌∙◌, ◌++◌, ℕ, Bool, true, false, not, ◌&&◌, ◌||◌, List, [], ◌∷◌, Some, option_map, codes, drop, refl, sym, ap, subst}
+use Rattle.std.specs.List.{list_all, list_any}
+use Rattle.std.proofs.lemmas.Bool.{and_parts, and_from, eqb-true}
 use Rattle.c_tokens.specs.declared.tok.Tok.{Tok}
 use Rattle.c_tokens.specs.Bytes.{is_word_byte}
-use Rattle.c_tokens.specs.Laws.{is_identifier, respaced}
+use Rattle.c_tokens.specs.Laws.{is_identifier}
 use Rattle.c_tokens.specs.Lexed.{lexed}
-use Rattle.c_macro.specs.Directive.{Define, all_params, begins_join, directive_of, ends_join, hashes_fit, is_body, is_punct, is_va_args, macro_of, object_macro, va_args}
+use Rattle.c_macro.specs.Directive.{Define, begins_join, directive_of, ends_join, hashes_fit, is_body, is_punct, is_va_args, macro_of, va_args}
 use Rattle.c_macro.specs.MacroData.{Macro}
-use Rattle.dt_names.specs.Facts.{FactData, facts, full_name}
+use Rattle.dt_names.specs.Facts.{FactData, full_name}
 use Rattle.dt_names.specs.Pieces.{PieceData, form, lit, num, spells, str}
 use Rattle.dt_names.specs.declared.piece.Params.{Params}
 use Rattle.dt_names.specs.declared.piece.Params.TheVariants as params
 use Rattle.dt_api.specs.HeaderDefs.{fact_macro, is_variadic, param_names, toks_in}
-use Rattle.dt_api.specs.HeaderLaw.{HasBytes, IsReadAsDefined, LinesAreRead, body_text, define_text, params_text}
+use Rattle.dt_api.specs.HeaderLaw.{IsReadAsDefined, LinesAreRead, body_text, params_text}
 use Rattle.dt_api.proofs.BodyReads.{AreFine, IsBody, is_fine, is_spaced}
 use Rattle.dt_api.proofs.HeaderTable.{IsRow, begins_d, is_row}
 use Rattle.dt_api.proofs.PieceReads.{are_words, words_spelled}
-use Rattle.dt_api.proofs.TokenReads.{Reads, a_sign, a_word, is_fresh, nothing, read_as, reads_gap, reads_none, reads_sign, reads_token, sign_token, toks_read, word_token}
+use Rattle.dt_api.proofs.TokenReads.{Reads, a_sign, a_word, is_fresh, nothing, reads_gap, reads_none, reads_sign, reads_token, sign_token, word_token}
 
 negated : (b : Bool) → not b ≡ true → b ≡ false
 negated false e = refl

@@ -1,10 +1,10 @@
 -- Each definition of the header has a name and a body that are read.
-use Rattle.std.proofs.Common.{◌≡◌, ◌∙◌, ◌+◌, ◌++◌, ℕ, zero, suc, Bool, true, false, ◌&&◌, List, [], ◌∷◌, Option, Some, None, codes, length, map, nat_eq, option_map, refl, sym, ap, subst, inl, inr, arith, add-zero, zero-add, append-nil, if◌then◌else◌}
+use Rattle.std.proofs.Common.{◌≡◌, ◌+◌, ◌++◌, ℕ, suc, Bool, true, false, List, [], ◌∷◌, Option, Some, None, codes, length, map, nat_eq, option_map, refl, sym, subst, inl, inr, arith, add-zero, zero-add, append-nil, if◌then◌else◌}
 use Rattle.std.specs.Prelude.{decimal, nat_lt, slice_get, take, unwrap_or}
 use Rattle.std.specs.List.{All, Contains, flat_map, list_all, range_with_len}
 use Rattle.std.specs.Option.{option_map_or}
 use Rattle.std.proofs.lemmas.List.Elements.{All-cons, All-contains, All-nil}
-use Rattle.std.proofs.lemmas.Bool.{cases_Bool, and_parts, and_from}
+use Rattle.std.proofs.lemmas.Bool.{cases_Bool, and_parts}
 use Rattle.edt_base.specs.BoundData.{BoundData}
 use Rattle.edt_base.specs.BoundNodeData.{BoundNodeData}
 use Rattle.edt_base.specs.EntryData.{EntryData}
@@ -18,7 +18,7 @@ use Rattle.edt_base.specs.declared.bound.PropType.{PropType}
 use Rattle.edt_base.specs.declared.bound.PropType.TheVariants as type
 use Rattle.edt_base.specs.declared.bound.Range.{Range}
 use Rattle.edt_base.specs.declared.bound.Reg.{Reg}
-use Rattle.dt_names.specs.Facts.{Element, FactData, a_node, an_entry, an_item, at_index, cell_facts, child_facts, child_rows, choice_lines, choice_of, chosen_facts, count_facts, counted, each, elem_choices, elem_facts, elem_lines, elem_visit, elements, entry_facts, fact, facts, full_name, helper_facts, id_at, id_pieces, inst_facts, irq_facts, irq_lines, is_shown, item_facts, item_rows, label_facts, link, marked, match_facts, node_facts, node_lines, node_rows, of_node, of_prop, okay_facts, order_facts, path_facts, pha_facts, pha_lines, place_fact, plain, prop_facts, range_facts, range_lines, reg_facts, reg_lines, shown_facts, there, titled, titled_node, tree_facts, value_body, visits, walks, yes}
+use Rattle.dt_names.specs.Facts.{Element, FactData, a_node, an_entry, an_item, at_index, cell_facts, child_facts, child_rows, choice_lines, choice_of, chosen_facts, count_facts, counted, each, elem_choices, elem_facts, elem_lines, elem_visit, elements, entry_facts, fact, facts, full_name, helper_facts, id_at, id_pieces, inst_facts, irq_facts, irq_lines, is_shown, item_rows, label_facts, link, match_facts, node_facts, node_rows, of_node, of_prop, okay_facts, order_facts, path_facts, pha_facts, pha_lines, place_fact, plain, prop_facts, range_facts, reg_facts, reg_lines, shown_facts, there, titled, titled_node, tree_facts, value_body, visits, walks, yes}
 use Rattle.dt_names.specs.Pieces.{PieceData, form, lit, num, spells, str}
 use Rattle.dt_names.specs.declared.piece.Params.{Params}
 use Rattle.dt_names.specs.declared.piece.Params.TheVariants as params

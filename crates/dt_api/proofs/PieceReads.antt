@@ -1,19 +1,18 @@
 -- How the pieces of names and bodies are read.
-use Rattle.std.proofs.Common.{◌≡◌, ◌∙◌, ◌+◌, ◌<◌, ◌≤◌, ◌++◌, ℕ, zero, suc, Bool, true, false, not, ◌&&◌, ◌||◌, ◌==◌, ◌/◌, ◌%◌, List, [], ◌∷◌, Option, Some, None, codes, length, map, nat_eq, nat_le, nat_lt, refl, sym, ap, subst, inl, inr, arith, append-nil, append_assoc, if◌then◌else◌}
+use Rattle.std.proofs.Common.{◌≡◌, ◌∙◌, ◌<◌, ◌++◌, ℕ, zero, suc, Bool, true, false, ◌&&◌, ◌||◌, ◌==◌, ◌/◌, ◌%◌, List, [], ◌∷◌, nat_eq, nat_le, nat_lt, refl, sym, subst, inl, inr, arith}
 use Rattle.std.specs.Prelude.{decimal}
 use Rattle.std.specs.Fmt.{digits, digits_onto, digit_glyph}
 use Rattle.std.specs.List.{flat_map, list_all}
-use Rattle.std.proofs.lemmas.Bool.{cases_Bool, and_parts, and_from, or_parts}
+use Rattle.std.proofs.lemmas.Bool.{cases_Bool, and_parts, and_from}
 use Rattle.std.proofs.lemmas.Bool.Decides.{nat_tests}
 use Rattle.std.proofs.lemmas.Grind.{flat_map-append}
 use Rattle.std.proofs.lemmas.List.Folds.{list_all-append}
 use Rattle.edt_base.specs.Forms.{form_byte, form_char, form_of}
-use Rattle.c_tokens.specs.declared.tok.Tok.{Tok}
-use Rattle.c_tokens.specs.Bytes.{is_digit, is_letter, is_word_byte}
-use Rattle.c_tokens.specs.Laws.{IsToken, is_identifier, respaced}
+use Rattle.c_tokens.specs.Bytes.{is_digit, is_word_byte}
+use Rattle.c_tokens.specs.Laws.{IsToken}
 use Rattle.dt_names.specs.Facts.{id_pieces, name_first, name_pieces, names_pieces}
 use Rattle.dt_names.specs.Pieces.{PieceData, form, lit, num, spell, spells, str}
-use Rattle.dt_api.proofs.TokenReads.{Reads, a_number, a_word, digit_word, is_fresh, number_token, reads_token, word_token}
+use Rattle.dt_api.proofs.TokenReads.{a_number, digit_word, number_token}
 
 -- ---- forms and decimals
 

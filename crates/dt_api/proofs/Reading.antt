@@ -1,14 +1,14 @@
 -- The API text is read row by row.
-use Rattle.std.proofs.Common.{◌≡◌, ◌∙◌, ◌+◌, ◌<◌, ◌++◌, ℕ, zero, suc, Bool, true, false, not, ◌&&◌, List, [], ◌∷◌, Option, Some, None, codes, length, map, nat_eq, refl, sym, ap, subst, inl, inr, arith, rules, append_assoc, add-zero, add_assoc, drop, if◌then◌else◌}
+use Rattle.std.proofs.Common.{◌≡◌, ◌∙◌, ◌+◌, ◌<◌, ◌++◌, ℕ, suc, Bool, true, false, not, ◌&&◌, List, [], ◌∷◌, Option, Some, None, length, map, nat_eq, refl, sym, ap, subst, arith, append_assoc, add-zero, drop, if◌then◌else◌}
 use Rattle.std.specs.List.{cons_option, filter_map, list_all}
 use Rattle.std.specs.Option.{option_and_then}
 use Rattle.std.specs.Str.{is_utf8, chars}
-use Rattle.std.proofs.lemmas.Bool.{and_from, and_parts, cases_Bool}
+use Rattle.std.proofs.lemmas.Bool.{and_from, and_parts}
 use Rattle.c_tokens.specs.declared.tok.Tok.{Tok}
 use Rattle.c_tokens.specs.LineData.{LineData}
 use Rattle.c_tokens.specs.Lexed.{Lexed, lexed, lexed_behind}
 use Rattle.c_tokens.specs.Lines.{AtEnd, Cut, Logical, LogicalLine, LinesOf, Unread, begins_hash, closes, cut, line_of, no_more, one_more, with_byte}
-use Rattle.c_macro.specs.Directive.{Define, Directive, Nothing, Undefine, all_differ, directive_of, line_directive, text_directive}
+use Rattle.c_macro.specs.Directive.{Define, Directive, Nothing, all_differ, directive_of, line_directive, text_directive}
 use Rattle.dt_api.specs.ApiText.{api_lines, api_text, text_of}
 use Rattle.dt_api.specs.Defining.{Definition, api_definitions, defined_as, defined_by, definitions_in}
 use Rattle.dt_api.specs.Laws.{ApiTextIsRead, IsApiRead}

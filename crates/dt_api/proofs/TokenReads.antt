@@ -1,10 +1,10 @@
 -- Bytes that are read as tokens, one token after another.
-use Rattle.std.proofs.Common.{◌≡◌, ◌∙◌, ◌+◌, ◌<◌, ◌≤◌, ◌++◌, ℕ, zero, suc, Bool, true, false, not, ◌&&◌, ◌||◌, ◌==◌, ◌/◌, ◌%◌, List, [], ◌∷◌, Option, Some, None, option_map, length, take, drop, nat_eq, nat_le, nat_lt, refl, sym, ap, subst, inl, inr, arith, append-nil, append_assoc, if◌then◌else◌}
+use Rattle.std.proofs.Common.{◌≡◌, ◌∙◌, ◌+◌, ◌<◌, ◌++◌, ℕ, suc, Bool, true, false, not, ◌&&◌, ◌||◌, ◌==◌, ◌/◌, ◌%◌, List, [], ◌∷◌, Option, Some, None, option_map, length, take, drop, nat_eq, nat_le, nat_lt, refl, sym, ap, subst, inl, inr, arith, append-nil, append_assoc}
 use Rattle.std.proofs.lemmas.Bool.{cases_Bool, and_parts, and_from, or_parts}
 use Rattle.std.proofs.lemmas.Bool.Decides.{nat_tests}
 use Rattle.std.proofs.lemmas.Str.{IsUtf8-from_ascii, is_utf8-from_IsUtf8}
 use Rattle.std.proofs.lemmas.Str.Ascii.{IsAscii-cons, IsAscii-nil}
-use Rattle.std.proofs.Math.Seq.{take-append_seam, drop-append_seam, drop-length}
+use Rattle.std.proofs.Math.Seq.{take-append_seam, drop-length}
 use Rattle.std.proofs.lemmas.List.{length-append}
 use Rattle.std.proofs.lemmas.List.Folds.{list_all-append}
 use Rattle.std.specs.List.{flat_map, list_all}
@@ -13,7 +13,7 @@ use Rattle.c_tokens.specs.declared.tok.Tok.{Tok}
 use Rattle.c_tokens.specs.declared.tok.TokKind.{TokKind}
 use Rattle.c_tokens.specs.declared.tok.TokKind.TheVariants as kind
 use Rattle.c_tokens.specs.declared.grammar.Piece.TheVariants as piece
-use Rattle.c_tokens.specs.Bytes.{byte_at, is_blank, is_digit, is_exponent, is_letter, is_prefix, is_quote, is_word_byte}
+use Rattle.c_tokens.specs.Bytes.{is_blank, is_digit, is_exponent, is_letter, is_prefix, is_quote, is_word_byte}
 use Rattle.c_tokens.specs.Grammar.{front, kind_of, literal_end, literal_of, number_rest}
 use Rattle.c_tokens.specs.Lexed.{Lexed, lexed_behind, lexed_end, with_tok}
 use Rattle.c_tokens.specs.Laws.{IsToken, continues, is_identifier, respaced}

@@ -5,7 +5,6 @@ use Rattle.std.specs.Map.{lookup}
 use Rattle.std.specs.Option.{option_and_then}
 use Rattle.std.specs.Str.{bytes_eq}
 use Rattle.edt_base.specs.declared.fault.Rule.TheVariants.{C5}
-use Rattle.c_tokens.specs.LineData.{LineData}
 use Rattle.c_tokens.specs.Lexed.{Lexed, lexed}
 use Rattle.c_tokens.specs.Lines.{begins_hash}
 use Rattle.c_macro.specs.Directive.{Define, Directive, Known, directive_of, first_some, redefined}

@@ -1,5 +1,5 @@
 -- That the definitions of the header are read from their lines.
-use Rattle.std.specs.Prelude.{◌≡◌, ◌++◌, ℕ, Bool, false, true, List, [], ◌∷◌, Option, Some, codes, drop, nat_lt, slice_get}
+use Rattle.std.specs.Prelude.{◌≡◌, ◌++◌, ℕ, Bool, false, true, List, [], ◌∷◌, Some, codes, drop, nat_lt, slice_get}
 use Rattle.std.specs.List.{Contains, list_all}
 use Rattle.edt_base.specs.BoundData.{BoundData}
 use Rattle.edt_base.specs.BoundNodeData.{BoundNodeData}
