@@ -1,0 +1,5 @@
+pub mod ApiText
+pub mod Defining
+pub mod HeaderDefs
+pub mod HeaderLaw
+pub mod Laws
