@@ -1,5 +1,5 @@
 -- That the definitions of the header are read from their lines.
-use Rattle.std.specs.Prelude.{◌≡◌, ◌++◌, ℕ, Bool, false, true, List, [], ◌∷◌, Some, codes, drop, nat_lt, slice_get}
+use Rattle.std.specs.Prelude.{◌≡◌, ◌++◌, ◌&&◌, ℕ, Bool, nat_eq, not, false, true, List, [], ◌∷◌, Some, codes, drop, nat_lt, slice_get}
 use Rattle.std.specs.List.{Contains, list_all}
 use Rattle.edt_base.specs.BoundData.{BoundData}
 use Rattle.edt_base.specs.BoundNodeData.{BoundNodeData}
@@ -30,8 +30,13 @@ texts_of _ = []
 abbrev pub has_bytes : PropData → Bool
 has_bytes p = list_all is_bytes (texts_of p.val)
 
--- the texts that the header has in string literals are made of bytes
+-- a text that stands within a comment and within a line
+abbrev pub is_title : List ℕ → Bool
+is_title text = list_all (λ c. not (nat_eq c 10) && not (nat_eq c 42)) text
+
+-- the texts that the header has in string literals are made of bytes, and those that it has in comments stay there
 pub record HasBytes (b : BoundData) : Type 0 where
+  pub titles : (n : ℕ) (x : NodeData) → slice_get b.tree.nodes n ≡ Some x → is_title x.path ≡ true
   pub paths : (n : ℕ) (x : NodeData) → slice_get b.tree.nodes n ≡ Some x → is_bytes x.path ≡ true
   pub names : (n : ℕ) (x : NodeData) → slice_get b.tree.nodes n ≡ Some x → is_bytes x.name ≡ true
   pub values : (n : ℕ) (y : BoundNodeData) → slice_get b.nodes n ≡ Some y → list_all has_bytes y.props ≡ true

@@ -3,6 +3,7 @@
 ghost use Rattle.std.specs.Prelude.{◌≡◌};
 ghost use Rattle.dt_api.specs.ApiText.{api_text};
 ghost use Rattle.dt_api.specs.HeaderLaw.{LinesAreRead};
+ghost use Rattle.dt_api.specs.HeaderRows.{HeaderIsRead};
 ghost use Rattle.dt_api.specs.Laws.{ApiTextIsRead};
 
 use crate::text::API_TEXT;
@@ -25,4 +26,12 @@ pub fn the_api_text_is_read()
 /// texts that stand in string literals are to be made of bytes.
 pub fn header_lines_are_read()
     ensures { LinesAreRead }
+{}
+
+/// The header of a bound tree is read row by row: its lines are blank or define exactly the bound
+/// tree's definitions, each name once, so that each name has the macro of its first definition and
+/// no rule of C is broken. The texts that stand in string literals are to be made of bytes, and
+/// paths to have neither a newline nor a `*`.
+pub fn the_header_is_read()
+    ensures { HeaderIsRead }
 {}
