@@ -186,4 +186,4 @@ row_reads f row =
     }
 
 pub lines_are_read : LinesAreRead
-lines_are_read b f has h = row_reads f (is_row b f has h)
+lines_are_read b f w has h = row_reads f (is_row b f w has h)

@@ -13,6 +13,7 @@ use Rattle.edt_base.specs.NodeData.{NodeData}
 use Rattle.edt_base.specs.Nodes.{okay_of, path_at}
 use Rattle.edt_base.specs.Ords.{OrdsData, ords_at}
 use Rattle.edt_base.specs.PropData.{PropData}
+use Rattle.edt_base.specs.TreeData.{IsWellFormed}
 use Rattle.edt_base.specs.ValData.{ValData, bool_val, compound_val, entries_val, int_val, ints_val, node_val, nodes_val, str_val, strs_val, u8s_val}
 use Rattle.edt_base.specs.declared.bound.PropType.{PropType}
 use Rattle.edt_base.specs.declared.bound.PropType.TheVariants as type
@@ -26,6 +27,7 @@ use Rattle.dt_names.proofs.Table.{Hold, both_hold, each_hold, flat_hold, map_hol
 use Rattle.dt_api.specs.HeaderDefs.{is_variadic}
 use Rattle.dt_api.specs.HeaderLaw.{HasBytes, has_bytes, is_bytes, is_title, texts_of}
 use Rattle.dt_api.proofs.BodyReads.{AreThings, AreValues, IsBody, IsThing, body_braces, body_id, body_number, body_ords, body_string, body_visits, elem_thing, id_thing, lined_append, number_thing, number_value, string_value, words_lined}
+use Rattle.dt_api.proofs.TreeTexts.{name_bytes, path_bytes, path_title}
 use Rattle.dt_api.proofs.PieceReads.{are_words, are_words_append, id_words}
 
 -- a name begins with `D`
@@ -411,17 +413,17 @@ each_at P f from (x ∷ xs) h =
     later : (n k : ℕ) → n + suc k ≡ n + 1 + k
     later n k = omega arith
 
-titled_node_rows : (b : BoundData) (n : ℕ) (x : NodeData) → HasBytes b → slice_get b.tree.nodes n ≡ Some x → AreRows (titled_node b n x)
-titled_node_rows b n x has there_ = by_node (slice_get b.nodes n) refl
+titled_node_rows : (b : BoundData) (n : ℕ) (x : NodeData) → IsWellFormed b.tree → HasBytes b → slice_get b.tree.nodes n ≡ Some x → AreRows (titled_node b n x)
+titled_node_rows b n x w has there_ = by_node (slice_get b.nodes n) refl
   where
     by_node : (o : Option BoundNodeData) → slice_get b.nodes n ≡ o → AreRows (option_map_or (λ y. titled x.path (node_facts b n x y)) o [])
     by_node None e = tt
-    by_node (Some y) e = titled_rows x.path (node_facts b n x y) (has.titles n x there_) (node_all_rows b n x y (has.paths n x there_) (has.names n x there_) (has.values n y e))
+    by_node (Some y) e = titled_rows x.path (node_facts b n x y) (path_title b.tree n x w there_) (node_all_rows b n x y (path_bytes b.tree n x w there_) (name_bytes b.tree n x w there_) (has n y e))
 
-pub facts_rows : (b : BoundData) → HasBytes b → AreRows (facts b)
-facts_rows b has =
+pub facts_rows : (b : BoundData) → IsWellFormed b.tree → HasBytes b → AreRows (facts b)
+facts_rows b w has =
     both_hold IsRow (each (titled_node b) 0 b.tree.nodes) _
-    (each_at IsRow (titled_node b) 0 b.tree.nodes (λ k x e. subst (λ n. Hold IsRow (titled_node b n x)) (sym (zero-add k)) (titled_node_rows b k x has e)))
+    (each_at IsRow (titled_node b) 0 b.tree.nodes (λ k x e. subst (λ n. Hold IsRow (titled_node b n x)) (sym (zero-add k)) (titled_node_rows b k x w has e)))
     (titled_rows (codes "tree") (tree_facts b) refl (tree_rows b))
 
 all_rows : (fs : List FactData) → AreRows fs → All IsRow fs
@@ -429,5 +431,5 @@ all_rows [] h = All-nil IsRow
 all_rows (f ∷ fs) h = All-cons IsRow f fs h.0 (all_rows fs h.1)
 
 -- each definition of a bound tree is a row
-pub is_row : (b : BoundData) (f : FactData) → HasBytes b → Contains (facts b) f → IsRow f
-is_row b f has h = All-contains IsRow (facts b) f (all_rows (facts b) (facts_rows b has)) h
+pub is_row : (b : BoundData) (f : FactData) → IsWellFormed b.tree → HasBytes b → Contains (facts b) f → IsRow f
+is_row b f w has h = All-contains IsRow (facts b) f (all_rows (facts b) (facts_rows b w has)) h

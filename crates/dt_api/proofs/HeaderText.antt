@@ -333,8 +333,8 @@ found name earlier (f ∷ fs) h = elim (cases_Bool (bytes_eq name (name_of f))) 
 -- ---- the law
 
 pub header_is_read : HeaderIsRead
-header_is_read b has =
-    let p = part_from 1 [] (facts b) (facts_rows b has) in (
+header_is_read b w has =
+    let p = part_from 1 [] (facts b) (facts_rows b w has) in (
       p.lines,
       record {
         last = p.last;

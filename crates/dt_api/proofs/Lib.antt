@@ -6,3 +6,4 @@ pub mod HeaderText
 pub mod PieceReads
 pub mod Reading
 pub mod TokenReads
+pub mod TreeTexts

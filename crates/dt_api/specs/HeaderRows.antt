@@ -4,6 +4,7 @@ use Rattle.std.specs.List.{filter_map, list_all}
 use Rattle.std.specs.Map.{lookup}
 use Rattle.std.specs.Str.{bytes_eq}
 use Rattle.edt_base.specs.BoundData.{BoundData}
+use Rattle.edt_base.specs.TreeData.{IsWellFormed}
 use Rattle.c_tokens.specs.LineData.{LineData}
 use Rattle.c_tokens.specs.Lines.{AtEnd, LinesOf}
 use Rattle.c_macro.specs.Directive.{Define, Directive, Nothing, all_differ, line_directive}
@@ -63,4 +64,4 @@ pub record IsHeaderRead (b : BoundData) (lines : List LineData) : Type 0 where
   pub names : (name : List ℕ) → lookup (bytes_eq name) (header_definitions b) ≡ header_macro b name
 
 abbrev pub HeaderIsRead : Type 0
-HeaderIsRead = (b : BoundData) → HasBytes b → (lines : List LineData) × IsHeaderRead b lines
+HeaderIsRead = (b : BoundData) → IsWellFormed b.tree → HasBytes b → (lines : List LineData) × IsHeaderRead b lines

@@ -23,15 +23,14 @@ pub fn the_api_text_is_read()
 
 /// Each definition of a header is read from its line: the line is made of tokens, and is the
 /// directive that defines the definition's name with its parameters and the tokens of its body. The
-/// texts that stand in string literals are to be made of bytes.
+/// texts of values are to be made of bytes.
 pub fn header_lines_are_read()
     ensures { LinesAreRead }
 {}
 
 /// The header of a bound tree is read row by row: its lines are blank or define exactly the bound
 /// tree's definitions, each name once, so that each name has the macro of its first definition and
-/// no rule of C is broken. The texts that stand in string literals are to be made of bytes, and
-/// paths to have neither a newline nor a `*`.
+/// no rule of C is broken. The texts of values are to be made of bytes.
 pub fn the_header_is_read()
     ensures { HeaderIsRead }
 {}
