@@ -2,7 +2,7 @@
 
 ghost use Rattle.std.specs.Prelude.{◌≡◌};
 ghost use Rattle.dt_api.specs.ApiText.{api_text};
-ghost use Rattle.dt_api.specs.HeaderLaw.{LinesAreRead};
+ghost use Rattle.dt_api.specs.HeaderLaw.{LinesAreRead, NoNameIsInBoth};
 ghost use Rattle.dt_api.specs.Laws.{ApiTextIsRead};
 
 use crate::text::API_TEXT;
@@ -25,4 +25,10 @@ pub fn the_api_text_is_read()
 /// texts that stand in string literals are to be made of bytes.
 pub fn header_lines_are_read()
     ensures { LinesAreRead }
+{}
+
+/// No name is in both: whatever the tree, no definition of its header has the name of a macro of
+/// the API text, so neither text changes what the other defines.
+pub fn no_name_is_in_both()
+    ensures { NoNameIsInBoth }
 {}
