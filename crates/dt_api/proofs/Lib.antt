@@ -3,6 +3,7 @@ pub mod DefineSteps
 pub mod HeaderLines
 pub mod HeaderTable
 pub mod HeaderText
+pub mod NoBoth
 pub mod PieceReads
 pub mod Reading
 pub mod TokenReads

@@ -1,5 +1,5 @@
 -- That the definitions of the header are read from their lines.
-use Rattle.std.specs.Prelude.{◌≡◌, ◌++◌, ◌&&◌, ℕ, Bool, nat_eq, not, false, true, List, [], ◌∷◌, Some, codes, drop, nat_lt, slice_get}
+use Rattle.std.specs.Prelude.{◌≡◌, ◌++◌, ◌&&◌, ℕ, Bool, nat_eq, not, false, true, List, [], ◌∷◌, Some, None, codes, drop, nat_lt, slice_get}
 use Rattle.std.specs.List.{Contains, list_all}
 use Rattle.edt_base.specs.BoundData.{BoundData}
 use Rattle.edt_base.specs.BoundNodeData.{BoundNodeData}
@@ -14,6 +14,7 @@ use Rattle.dt_names.specs.Facts.{FactData, facts, full_name}
 use Rattle.dt_names.specs.Pieces.{PieceData, spells}
 use Rattle.dt_names.specs.declared.piece.Params.{Params}
 use Rattle.dt_names.specs.declared.piece.Params.TheVariants.{Plain, Fn, FnSep, FnVargs}
+use Rattle.dt_api.specs.Defining.{api_macro}
 use Rattle.dt_api.specs.HeaderDefs.{fact_macro}
 
 -- ---- texts
@@ -66,3 +67,9 @@ pub record IsReadAsDefined (f : FactData) : Type 0 where
 -- each definition of a bound tree is read from its line
 abbrev pub LinesAreRead : Type 0
 LinesAreRead = (b : BoundData) (f : FactData) → IsWellFormed b.tree → HasBytes b → Contains (facts b) f → IsReadAsDefined f
+
+-- ---- names
+
+-- no name is in both: the API text has no macro of a name that a bound tree defines
+abbrev pub NoNameIsInBoth : Type 0
+NoNameIsInBoth = (b : BoundData) (f : FactData) → Contains (facts b) f → api_macro (spells (full_name f)) ≡ None

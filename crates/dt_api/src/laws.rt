@@ -2,7 +2,7 @@
 
 ghost use Rattle.std.specs.Prelude.{◌≡◌};
 ghost use Rattle.dt_api.specs.ApiText.{api_text};
-ghost use Rattle.dt_api.specs.HeaderLaw.{LinesAreRead};
+ghost use Rattle.dt_api.specs.HeaderLaw.{LinesAreRead, NoNameIsInBoth};
 ghost use Rattle.dt_api.specs.HeaderRows.{HeaderIsRead};
 ghost use Rattle.dt_api.specs.Laws.{ApiTextIsRead};
 
@@ -33,4 +33,10 @@ pub fn header_lines_are_read()
 /// no rule of C is broken. The texts of values are to be made of bytes.
 pub fn the_header_is_read()
     ensures { HeaderIsRead }
+{}
+
+/// No name is in both: whatever the tree, no definition of its header has the name of a macro of
+/// the API text, so neither text changes what the other defines.
+pub fn no_name_is_in_both()
+    ensures { NoNameIsInBoth }
 {}

@@ -6,5 +6,7 @@ mod laws;
 mod text;
 
 pub use defining::defs;
-pub use laws::{api_text, header_lines_are_read, the_api_text_is_read, the_header_is_read};
+pub use laws::{
+    api_text, header_lines_are_read, no_name_is_in_both, the_api_text_is_read, the_header_is_read,
+};
 pub use text::API_TEXT;
