@@ -13,11 +13,11 @@ use Rattle.c_tokens.specs.Bytes.{is_digit, is_letter, is_word_byte}
 use Rattle.c_tokens.specs.Laws.{IsToken, is_identifier, respaced}
 use Rattle.c_macro.specs.Directive.{is_punct, is_va_args}
 use Rattle.dt_names.specs.Facts.{between, braces, elem_visit, id_pieces, names_pieces, ords_body, visit, visit_end, visits}
-use Rattle.dt_names.specs.Pieces.{PieceData, form, lit, num, quoted, spell, spells, str}
+use Rattle.dt_names.specs.Pieces.{PieceData, escaped, form, lit, num, quoted, spell, spells, str}
 use Rattle.dt_names.specs.declared.piece.Params.{Params}
 use Rattle.dt_names.specs.declared.piece.Params.TheVariants as params
 use Rattle.dt_api.specs.HeaderDefs.{is_variadic}
-use Rattle.dt_api.proofs.PieceReads.{decimal_token, form_word, id_words, spells_append, words_spelled}
+use Rattle.dt_api.proofs.PieceReads.{are_words, decimal_word, decimal_token, form_word, id_words, spells_append, words_spelled}
 use Rattle.dt_api.proofs.TokenReads.{Reads, a_number, a_sign, a_string, a_word, is_byte, is_fresh, number_token, reads_gap, reads_none, reads_sign, reads_token, sign_token, string_token, word_token}
 
 -- a token that may stand in a body: no `#` and no `##`, and the name of the variable part only where there is one
@@ -186,6 +186,59 @@ elem_thing path name i = subst IsThing (sym (elem_is path name i)) (record {
   reads = λ rest more fresh h. elem_reads path (form_of name) i rest more (form_word name) fresh h;
 })
 
+-- ---- lines
+
+-- a byte that ends no line
+abbrev pub is_inner : ℕ → Bool
+is_inner b = not (nat_eq b 10)
+
+-- pieces whose literal texts end no line
+abbrev pub are_lined : List PieceData → Bool
+are_lined [] = true
+are_lined (lit t ∷ ps) = list_all is_inner t && are_lined ps
+are_lined (p ∷ ps) = are_lined ps
+
+-- the last byte, if there is one, is no backslash
+abbrev pub ends_well : List ℕ → Bool
+ends_well [] = true
+ends_well (b ∷ []) = not (nat_eq b 92)
+ends_well (b ∷ c ∷ bs) = ends_well (c ∷ bs)
+
+pub ends_behind : (xs : List ℕ) (c : ℕ) (ys : List ℕ) → ends_well (c ∷ ys) ≡ true → ends_well (xs ++ c ∷ ys) ≡ true
+ends_behind [] c ys h = h
+ends_behind (x ∷ []) c ys h = h
+ends_behind (x ∷ y ∷ xs) c ys h = ends_behind (y ∷ xs) c ys h
+
+word_ends : (b : ℕ) → is_word_byte b ≡ true → not (nat_eq b 92) ≡ true
+word_ends b h = grind (arith, nat_tests)
+
+pub words_end : (w : List ℕ) → list_all is_word_byte w ≡ true → ends_well w ≡ true
+words_end [] h = refl
+words_end (b ∷ []) h = let p : (is_word_byte b ≡ true) × (true ≡ true) = and_parts _ _ h in word_ends b p.0
+words_end (b ∷ c ∷ bs) h = let p : (is_word_byte b ≡ true) × (list_all is_word_byte (c ∷ bs) ≡ true) = and_parts _ _ h in words_end (c ∷ bs) p.1
+
+pub lined_append : (ps qs : List PieceData) → are_lined ps ≡ true → are_lined qs ≡ true → are_lined (ps ++ qs) ≡ true
+lined_append [] qs h k = k
+lined_append (lit t ∷ ps) qs h k = let p : (list_all is_inner t ≡ true) × (are_lined ps ≡ true) = and_parts _ _ h in and_from _ _ p.0 (lined_append ps qs p.1 k)
+lined_append (form t ∷ ps) qs h k = lined_append ps qs h k
+lined_append (str t ∷ ps) qs h k = lined_append ps qs h k
+lined_append (num n ∷ ps) qs h k = lined_append ps qs h k
+
+word_inner : (b : ℕ) → is_word_byte b ≡ true → is_inner b ≡ true
+word_inner b h = grind (arith, nat_tests)
+
+pub words_inner : (w : List ℕ) → list_all is_word_byte w ≡ true → list_all is_inner w ≡ true
+words_inner [] h = refl
+words_inner (b ∷ bs) h = let p : (is_word_byte b ≡ true) × (list_all is_word_byte bs ≡ true) = and_parts _ _ h in and_from _ _ (word_inner b p.0) (words_inner bs p.1)
+
+-- pieces of a word have no newline
+pub words_lined : (ps : List PieceData) → are_words ps ≡ true → are_lined ps ≡ true
+words_lined [] h = refl
+words_lined (lit t ∷ ps) h = let p : (list_all is_word_byte t ≡ true) × (are_words ps ≡ true) = and_parts _ _ h in and_from _ _ (words_inner t p.0) (words_lined ps p.1)
+words_lined (form t ∷ ps) h = words_lined ps h
+words_lined (num n ∷ ps) h = words_lined ps h
+words_lined (str t ∷ ps) h = cc
+
 -- ---- bodies
 
 -- the first token, if there is one, stands behind white space
@@ -198,32 +251,37 @@ pub record IsBody (variadic : Bool) (body : List PieceData) : Type 0 where
   pub toks : List Tok
   pub fine : AreFine variadic toks
   pub first : is_spaced toks ≡ true
+  pub lined : are_lined body ≡ true
+  pub last : ends_well (spells body) ≡ true
   pub reads : Reads true (spells body) toks
 
 pub body_none : (variadic : Bool) → IsBody variadic []
 unfolding spells
-body_none variadic = record { toks = []; fine = refl; first = refl; reads = reads_none true }
+body_none variadic = record { toks = []; fine = refl; first = refl; lined = refl; last = refl; reads = reads_none true }
 
-pub body_token : (variadic : Bool) (body : List PieceData) (t : Tok) → spells body ≡ t.spell → IsToken t → is_fine variadic (respaced true t) ≡ true → IsBody variadic body
-body_token variadic body t e is fine = record {
+pub body_token : (variadic : Bool) (body : List PieceData) (t : Tok) → spells body ≡ t.spell → IsToken t → is_fine variadic (respaced true t) ≡ true → are_lined body ≡ true
+    → ends_well t.spell ≡ true → IsBody variadic body
+body_token variadic body t e is fine lined last = record {
   toks = respaced true t ∷ [];
   fine = and_from _ _ fine refl;
   first = refl;
+  lined = lined;
+  last = subst (λ z. ends_well z ≡ true) (sym e) last;
   reads = subst (λ z. Reads true z (respaced true t ∷ [])) (append-nil t.spell ∙ sym e) (reads_token true t [] [] is refl (reads_none false));
 }
 
 pub body_number : (variadic : Bool) (n : ℕ) → IsBody variadic (num n ∷ [])
 unfolding spells
-body_number variadic n = body_token variadic (num n ∷ []) (a_number true (decimal n)) (append-nil (decimal n)) (decimal_token true n) (fine_any variadic (a_number true (decimal n)) refl)
+body_number variadic n = body_token variadic (num n ∷ []) (a_number true (decimal n)) (append-nil (decimal n)) (decimal_token true n) (fine_any variadic (a_number true (decimal n)) refl) refl (words_end (decimal n) (decimal_word n))
 
 pub body_string : (variadic : Bool) (text : List ℕ) → list_all is_byte text ≡ true → IsBody variadic (str text ∷ [])
 unfolding spells
-body_string variadic text h = body_token variadic (str text ∷ []) (a_string true (quoted text)) (append-nil (quoted text)) (string_token true text h) (fine_any variadic (a_string true (quoted text)) refl)
+body_string variadic text h = body_token variadic (str text ∷ []) (a_string true (quoted text)) (append-nil (quoted text)) (string_token true text h) (fine_any variadic (a_string true (quoted text)) refl) refl (ends_behind (34 ∷ flat_map escaped text) 34 [] refl)
 
 pub body_id : (variadic : Bool) (path : List ℕ) → IsBody variadic (id_pieces path)
 body_id variadic path =
     let w = spells (id_pieces path) in
-    body_token variadic (id_pieces path) (a_word true w) refl (word_token true w (id_identifier path)) (fine_any variadic (a_word true w) (id_fine true path))
+    body_token variadic (id_pieces path) (a_word true w) refl (word_token true w (id_identifier path)) (fine_any variadic (a_word true w) (id_fine true path)) (words_lined (id_pieces path) (id_words path)) (words_end w (words_spelled (id_pieces path) (id_words path)))
 
 -- ---- ordinals
 
@@ -256,6 +314,15 @@ unfolding further_toks
 further_fine [] = refl
 further_fine (o ∷ os) = further_fine os
 
+further_lined : (os : List ℕ) → are_lined (further os) ≡ true
+further_lined [] = refl
+further_lined (o ∷ os) = further_lined os
+
+further_ends : (os : List ℕ) → ends_well (44 ∷ spells (further os)) ≡ true
+unfolding spells
+further_ends [] = refl
+further_ends (o ∷ os) = subst (λ z. ends_well (44 ∷ z) ≡ true) (sym (further_is o os)) (ends_behind (44 ∷ 32 ∷ decimal o) 44 (spells (further os)) (further_ends os))
+
 pub body_ords : (variadic : Bool) (os : List ℕ) → IsBody variadic (ords_body os)
 unfolding spells
 body_ords variadic [] = body_none variadic
@@ -265,6 +332,8 @@ body_ords variadic (o ∷ os) =
       toks = a_number true (decimal o) ∷ comma false ∷ further_toks os;
       fine = fine_all variadic (a_number true (decimal o) ∷ comma false ∷ further_toks os) (further_fine os);
       first = refl;
+      lined = further_lined os;
+      last = ends_behind (decimal o) 44 (spells (further os)) (further_ends os);
       reads = reads_token true (a_number true (decimal o)) (44 ∷ spells (further os)) _ (decimal_token true o) refl behind;
     }
 
@@ -276,12 +345,16 @@ pub record IsValue (v : PieceData) : Type 0 where
   pub is : IsToken tok
   pub spelled : spell v ≡ tok.spell
   pub fine : (spaced : Bool) → is_fine false (respaced spaced tok) ≡ true
+  pub lined : are_lined (v ∷ []) ≡ true
 
 pub number_value : (n : ℕ) → IsValue (num n)
-number_value n = record { tok = a_number false (decimal n); is = decimal_token false n; spelled = refl; fine = λ s. refl }
+number_value n = record { tok = a_number false (decimal n); is = decimal_token false n; spelled = refl; fine = λ s. refl; lined = refl }
 
 pub string_value : (text : List ℕ) → list_all is_byte text ≡ true → IsValue (str text)
-string_value text h = record { tok = a_string false (quoted text); is = string_token false text h; spelled = refl; fine = λ s. refl }
+string_value text h = record { tok = a_string false (quoted text); is = string_token false text h; spelled = refl; fine = λ s. refl; lined = refl }
+
+value_lined : (v : PieceData) (ps : List PieceData) → IsValue v → are_lined ps ≡ true → are_lined (v ∷ ps) ≡ true
+value_lined v ps x h = lined_append (v ∷ []) ps x.lined h
 
 abbrev pub AreValues : List PieceData → Type 0
 AreValues [] = Unit {0}
@@ -332,12 +405,28 @@ braces_is : (v : PieceData) (vs : List PieceData) → spells (braces (v ∷ vs))
 unfolding spells
 braces_is v vs = refl
 
+others_lined : (vs : List PieceData) → AreValues vs → are_lined (others vs) ≡ true
+others_lined [] h = refl
+others_lined (v ∷ vs) h = value_lined v (others vs) h.0 (others_lined vs h.1)
+
+braces_lined : (v : PieceData) (vs : List PieceData) → AreValues (v ∷ vs) → are_lined (braces (v ∷ vs)) ≡ true
+braces_lined v vs h = value_lined v (others vs) h.0 (others_lined vs h.1)
+
+others_end : (front : List ℕ) (vs : List PieceData) → ends_well (front ++ spells (others vs)) ≡ true
+unfolding spells
+others_end front [] = ends_behind front 125 [] refl
+others_end front (v ∷ vs) =
+    subst (λ z. ends_well z ≡ true) (append_assoc front (44 ∷ 32 ∷ spell v) (spells (others vs)) ∙ ap (λ z. front ++ z) (sym (others_is v vs)))
+    (others_end (front ++ 44 ∷ 32 ∷ spell v) vs)
+
 pub body_braces : (variadic : Bool) (vs : List PieceData) → AreValues vs → IsBody variadic (braces vs)
 unfolding spells
 body_braces variadic [] h = record {
   toks = opening true ∷ closing ∷ [];
   fine = fine_all variadic (opening true ∷ closing ∷ []) refl;
   first = refl;
+  lined = refl;
+  last = refl;
   reads = reads_token true (opening false) (125 ∷ []) (closing ∷ []) (sign_token false (codes "{") refl refl) refl
       (reads_token false closing [] [] (sign_token false (codes "}") refl refl) refl (reads_none false));
 }
@@ -348,6 +437,8 @@ body_braces variadic (v ∷ vs) h =
       toks = toks;
       fine = fine_all variadic toks (and_from _ _ (h.0.fine false) (others_fine vs h.1));
       first = refl;
+      lined = braces_lined v vs h;
+      last = subst (λ z. ends_well z ≡ true) (sym (braces_is v vs)) (others_end (123 ∷ spell v) vs);
       reads = subst (λ z. Reads true z toks) (sym (braces_is v vs)) (reads_sign true 123 (spell v ++ spells (others vs)) _ refl refl value);
     }
 
@@ -434,7 +525,7 @@ visit_fine spaced ps toks h =
 
 abbrev pub AreThings : List (List PieceData) → Type 0
 AreThings [] = Unit {0}
-AreThings (t ∷ ts) = IsThing (spells t) × AreThings ts
+AreThings (t ∷ ts) = (IsThing (spells t) × (are_lined t ≡ true)) × AreThings ts
 
 abbrev later : Params → List (List PieceData) → List PieceData
 later ps ts = flat_map (λ u. lit (between ps) ∷ visit ps u) ts
@@ -445,29 +536,74 @@ later_is ps t ts = ap (λ z. between ps ++ z) (spells_append (visit ps t) (later
 
 later_toks : (ps : Params) (ts : List (List PieceData)) → AreThings ts → List Tok
 later_toks ps [] h = []
-later_toks ps (t ∷ ts) h = between_toks ps ++ (visit_toks true ps h.0.toks ++ later_toks ps ts h.1)
+later_toks ps (t ∷ ts) h = between_toks ps ++ (visit_toks true ps h.0.0.toks ++ later_toks ps ts h.1)
 
 later_reads : (ps : Params) (ts : List (List PieceData)) (h : AreThings ts) → Reads false (spells (later ps ts)) (later_toks ps ts h)
 unfolding later_toks spells
 later_reads ps [] h = reads_none false
 later_reads ps (t ∷ ts) h =
     subst (λ z. Reads false z (later_toks ps (t ∷ ts) h)) (sym (later_is ps t ts))
-    (between_reads ps (spells (visit ps t) ++ spells (later ps ts)) _ (visit_reads true ps t h.0 (spells (later ps ts)) (later_toks ps ts h.1) (later_reads ps ts h.1)))
+    (between_reads ps (spells (visit ps t) ++ spells (later ps ts)) _ (visit_reads true ps t h.0.0 (spells (later ps ts)) (later_toks ps ts h.1) (later_reads ps ts h.1)))
 
 later_fine : (ps : Params) (ts : List (List PieceData)) (h : AreThings ts) → AreFine (is_variadic ps) (later_toks ps ts h)
 unfolding later_toks
 later_fine ps [] h = refl
 later_fine ps (t ∷ ts) h =
-    fine_append (is_variadic ps) (between_toks ps) (visit_toks true ps h.0.toks ++ later_toks ps ts h.1) (between_fine ps)
-    (fine_append (is_variadic ps) (visit_toks true ps h.0.toks) (later_toks ps ts h.1) (visit_fine true ps h.0.toks h.0.fine) (later_fine ps ts h.1))
+    fine_append (is_variadic ps) (between_toks ps) (visit_toks true ps h.0.0.toks ++ later_toks ps ts h.1) (between_fine ps)
+    (fine_append (is_variadic ps) (visit_toks true ps h.0.0.toks) (later_toks ps ts h.1) (visit_fine true ps h.0.0.toks h.0.0.fine) (later_fine ps ts h.1))
+
+end_lined : (ps : Params) → list_all is_inner (visit_end ps) ≡ true
+end_lined params.Plain = refl
+end_lined params.Fn = refl
+end_lined params.FnSep = refl
+end_lined params.FnVargs = refl
+
+between_lined : (ps : Params) → list_all is_inner (between ps) ≡ true
+between_lined params.Plain = refl
+between_lined params.Fn = refl
+between_lined params.FnSep = refl
+between_lined params.FnVargs = refl
+
+visit_lined : (ps : Params) (thing : List PieceData) → are_lined thing ≡ true → are_lined (visit ps thing) ≡ true
+visit_lined ps thing h = lined_append thing (lit (visit_end ps) ∷ []) h (and_from _ _ (end_lined ps) refl)
+
+later_lined : (ps : Params) (ts : List (List PieceData)) → AreThings ts → are_lined (later ps ts) ≡ true
+later_lined ps [] h = refl
+later_lined ps (t ∷ ts) h = and_from _ _ (between_lined ps) (lined_append (visit ps t) (later ps ts) (visit_lined ps t h.0.1) (later_lined ps ts h.1))
+
+close_ends : (ps : Params) (front : List ℕ) → ends_well (front ++ visit_end ps) ≡ true
+close_ends params.Plain front = ends_behind front 41 [] refl
+close_ends params.Fn front = ends_behind front 41 [] refl
+close_ends params.FnSep front = ends_behind front 41 [] refl
+close_ends params.FnVargs front = ends_behind front 44 (codes " __VA_ARGS__)") refl
+
+visit_spelled : (ps : Params) (t : List PieceData) → spells (visit ps t) ≡ 102 ∷ 110 ∷ 40 ∷ (spells t ++ visit_end ps)
+unfolding spells
+visit_spelled ps t = ap (λ z. 102 ∷ 110 ∷ 40 ∷ z) (spells_append t (lit (visit_end ps) ∷ []) ∙ ap (λ z. spells t ++ z) (append-nil (visit_end ps)))
+
+visit_ends : (ps : Params) (t : List PieceData) (front : List ℕ) → ends_well (front ++ spells (visit ps t)) ≡ true
+visit_ends ps t front =
+    subst (λ z. ends_well z ≡ true) (append_assoc front (102 ∷ 110 ∷ 40 ∷ spells t) (visit_end ps) ∙ ap (λ z. front ++ z) (sym (visit_spelled ps t)))
+    (close_ends ps (front ++ 102 ∷ 110 ∷ 40 ∷ spells t))
+
+later_ends : (ps : Params) (front : List ℕ) (ts : List (List PieceData)) → ends_well front ≡ true → ends_well (front ++ spells (later ps ts)) ≡ true
+unfolding spells
+later_ends ps front [] h = subst (λ z. ends_well z ≡ true) (sym (append-nil front)) h
+later_ends ps front (t ∷ ts) h =
+    let whole : front ++ spells (later ps (t ∷ ts)) ≡ ((front ++ between ps) ++ spells (visit ps t)) ++ spells (later ps ts) =
+    ap (λ z. front ++ z) (later_is ps t ts) ∙ (sym (append_assoc front (between ps) (spells (visit ps t) ++ spells (later ps ts)))
+    ∙ sym (append_assoc (front ++ between ps) (spells (visit ps t)) (spells (later ps ts)))) in
+    subst (λ z. ends_well z ≡ true) (sym whole) (later_ends ps ((front ++ between ps) ++ spells (visit ps t)) ts (visit_ends ps t (front ++ between ps)))
 
 pub body_visits : (ps : Params) (ts : List (List PieceData)) → AreThings ts → IsBody (is_variadic ps) (visits ps ts)
 unfolding visit_toks
 body_visits ps [] h = body_none (is_variadic ps)
 body_visits ps (t ∷ ts) h = record {
-  toks = visit_toks true ps h.0.toks ++ later_toks ps ts h.1;
-  fine = fine_append (is_variadic ps) (visit_toks true ps h.0.toks) (later_toks ps ts h.1) (visit_fine true ps h.0.toks h.0.fine) (later_fine ps ts h.1);
+  toks = visit_toks true ps h.0.0.toks ++ later_toks ps ts h.1;
+  fine = fine_append (is_variadic ps) (visit_toks true ps h.0.0.toks) (later_toks ps ts h.1) (visit_fine true ps h.0.0.toks h.0.0.fine) (later_fine ps ts h.1);
   first = refl;
-  reads = subst (λ z. Reads true z (visit_toks true ps h.0.toks ++ later_toks ps ts h.1)) (sym (spells_append (visit ps t) (later ps ts)))
-      (visit_reads true ps t h.0 (spells (later ps ts)) (later_toks ps ts h.1) (later_reads ps ts h.1));
+  lined = lined_append (visit ps t) (later ps ts) (visit_lined ps t h.0.1) (later_lined ps ts h.1);
+  last = subst (λ z. ends_well z ≡ true) (sym (spells_append (visit ps t) (later ps ts))) (later_ends ps (spells (visit ps t)) ts (visit_ends ps t []));
+  reads = subst (λ z. Reads true z (visit_toks true ps h.0.0.toks ++ later_toks ps ts h.1)) (sym (spells_append (visit ps t) (later ps ts)))
+      (visit_reads true ps t h.0.0 (spells (later ps ts)) (later_toks ps ts h.1) (later_reads ps ts h.1));
 }

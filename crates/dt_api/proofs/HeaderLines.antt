@@ -117,7 +117,7 @@ pub record IsName (name : List ℕ) : Type 0 where
   pub is : name ≡ 68 ∷ rest
   pub words : list_all is_word_byte rest ≡ true
 
-name_parts : (ps : List PieceData) → begins_d ps ≡ true → are_words ps ≡ true → IsName (spells ps)
+pub name_parts : (ps : List PieceData) → begins_d ps ≡ true → are_words ps ≡ true → IsName (spells ps)
 unfolding spells
 name_parts [] b h = cc
 name_parts (lit [] ∷ ps) b h = cc
@@ -171,7 +171,7 @@ defines : (name : List ℕ) (ps : Params) (toks : List Tok) → IsName name → 
     → directive_of (drop 1 (line_toks name ps toks)) ≡ Some (Define name (macro ps toks))
 defines name ps toks n h = subst (λ w. directive_of (drop 1 (line_toks w ps toks)) ≡ Some (Define w (macro ps toks))) (sym n.is) (ap (option_map (λ m. Define (68 ∷ n.rest) m)) h)
 
-row_reads : (f : FactData) → IsRow f → IsReadAsDefined f
+pub row_reads : (f : FactData) → IsRow f → IsReadAsDefined f
 row_reads f row =
     let name = spells (full_name f) in
     let n = name_parts (full_name f) row.begins row.words in
@@ -186,4 +186,4 @@ row_reads f row =
     }
 
 pub lines_are_read : LinesAreRead
-lines_are_read b f has h = row_reads f (is_row b f has h)
+lines_are_read b f w has h = row_reads f (is_row b f w has h)

@@ -13,6 +13,7 @@ use Rattle.edt_base.specs.NodeData.{NodeData}
 use Rattle.edt_base.specs.Nodes.{okay_of, path_at}
 use Rattle.edt_base.specs.Ords.{OrdsData, ords_at}
 use Rattle.edt_base.specs.PropData.{PropData}
+use Rattle.edt_base.specs.TreeData.{IsWellFormed}
 use Rattle.edt_base.specs.ValData.{ValData, bool_val, compound_val, entries_val, int_val, ints_val, node_val, nodes_val, str_val, strs_val, u8s_val}
 use Rattle.edt_base.specs.declared.bound.PropType.{PropType}
 use Rattle.edt_base.specs.declared.bound.PropType.TheVariants as type
@@ -24,8 +25,9 @@ use Rattle.dt_names.specs.declared.piece.Params.{Params}
 use Rattle.dt_names.specs.declared.piece.Params.TheVariants as params
 use Rattle.dt_names.proofs.Table.{Hold, both_hold, each_hold, flat_hold, map_hold, maybe_hold, there_hold}
 use Rattle.dt_api.specs.HeaderDefs.{is_variadic}
-use Rattle.dt_api.specs.HeaderLaw.{HasBytes, has_bytes, is_bytes, texts_of}
-use Rattle.dt_api.proofs.BodyReads.{AreThings, AreValues, IsBody, IsThing, body_braces, body_id, body_number, body_ords, body_string, body_visits, elem_thing, id_thing, number_thing, number_value, string_value}
+use Rattle.dt_api.specs.HeaderLaw.{HasBytes, has_bytes, is_bytes, is_title, texts_of}
+use Rattle.dt_api.proofs.BodyReads.{AreThings, AreValues, IsBody, IsThing, body_braces, body_id, body_number, body_ords, body_string, body_visits, elem_thing, id_thing, lined_append, number_thing, number_value, string_value, words_lined}
+use Rattle.dt_api.proofs.TreeTexts.{name_bytes, path_bytes, path_title}
 use Rattle.dt_api.proofs.PieceReads.{are_words, are_words_append, id_words}
 
 -- a name begins with `D`
@@ -33,17 +35,22 @@ abbrev pub begins_d : List PieceData → Bool
 begins_d (lit (c ∷ t) ∷ ps) = nat_eq c 68
 begins_d _ = false
 
+abbrev pub is_titled : Option (List ℕ) → Bool
+is_titled None = true
+is_titled (Some title) = is_title title
+
 pub record IsRow (f : FactData) : Type 0 where
   pub words : are_words (full_name f) ≡ true
   pub begins : begins_d (full_name f) ≡ true
   pub body : IsBody (is_variadic f.params) f.body
+  pub titled : is_titled f.heading ≡ true
 
-abbrev AreRows : List FactData → Type 0
+abbrev pub AreRows : List FactData → Type 0
 AreRows fs = Hold IsRow fs
 
 node_row : (n : ℕ) (path : List ℕ) (after : List PieceData) (ps : Params) (body : List PieceData) → are_words after ≡ true → IsBody (is_variadic ps) body
     → IsRow (of_node n path after ps body)
-node_row n path after ps body h is = record { words = are_words_append (id_pieces path) after (id_words path) h; begins = refl; body = is }
+node_row n path after ps body h is = record { words = are_words_append (id_pieces path) after (id_words path) h; begins = refl; body = is; titled = refl }
 
 plain_row : (n : ℕ) (path : List ℕ) (after : List PieceData) (body : List PieceData) → are_words after ≡ true → IsBody false body → IsRow (plain n path after body)
 plain_row n path after body h is = node_row n path after params.Plain body h is
@@ -58,15 +65,15 @@ body_id_at nodes id = body_id false (path_at nodes id)
 behind : (at rest : List PieceData) → are_words at ≡ true → are_words rest ≡ true → are_words (at ++ rest) ≡ true
 behind at rest h k = are_words_append at rest h k
 
-titled_rows : (heading : List ℕ) (fs : List FactData) → AreRows fs → AreRows (titled heading fs)
-titled_rows heading [] h = tt
-titled_rows heading (f ∷ fs) h = (record { words = h.0.words; begins = h.0.begins; body = h.0.body }, h.1)
+titled_rows : (heading : List ℕ) (fs : List FactData) → is_title heading ≡ true → AreRows fs → AreRows (titled heading fs)
+titled_rows heading [] e h = tt
+titled_rows heading (f ∷ fs) e h = (record { words = h.0.words; begins = h.0.begins; body = h.0.body; titled = e }, h.1)
 
 -- ---- walks
 
 id_things : (nodes : List NodeData) (ids : List ℕ) → AreThings (map (id_at nodes) ids)
 id_things nodes [] = tt
-id_things nodes (id ∷ ids) = (id_thing (path_at nodes id), id_things nodes ids)
+id_things nodes (id ∷ ids) = ((id_thing (path_at nodes id), words_lined (id_pieces (path_at nodes id)) (id_words (path_at nodes id))), id_things nodes ids)
 
 walk_rows : (n : ℕ) (path : List ℕ) (after : List PieceData) (things : List (List PieceData)) → are_words after ≡ true → AreThings things
     → AreRows (walks n path after things)
@@ -137,8 +144,8 @@ range_rows n path i r = (
 
 cell_rows : (n : ℕ) (path : List ℕ) (at : List PieceData) → are_words at ≡ true → (c : List ℕ × ℕ) → AreRows (cell_facts n path at c)
 cell_rows n path at h (c, v) = (
-  record { words = are_words_append (id_pieces path) _ (id_words path) (behind at _ h refl); begins = refl; body = body_number false v },
-  (record { words = are_words_append (id_pieces path) _ (id_words path) (behind at _ h refl); begins = refl; body = body_yes }, tt),
+  record { words = are_words_append (id_pieces path) _ (id_words path) (behind at _ h refl); begins = refl; body = body_number false v; titled = refl },
+  (record { words = are_words_append (id_pieces path) _ (id_words path) (behind at _ h refl); begins = refl; body = body_yes; titled = refl }, tt),
 )
 
 irq_line_rows : (n : ℕ) (path : List ℕ) (at : List PieceData) (e : EntryData) → are_words at ≡ true → AreRows (irq_lines n path at e)
@@ -290,7 +297,8 @@ value_row n path name (Some body) h = (plain_row n path (of_prop name []) body r
 
 visit_things : (path name : List ℕ) (places : List ℕ) → AreThings (map (elem_visit path name) places)
 visit_things path name [] = tt
-visit_things path name (i ∷ is) = (elem_thing path name i, visit_things path name is)
+visit_things path name (i ∷ is) =
+    ((elem_thing path name i, lined_append (id_pieces path) (lit (codes ", ") ∷ form name ∷ lit (codes ", ") ∷ num i ∷ []) (words_lined (id_pieces path) (id_words path)) refl), visit_things path name is)
 
 count_rows : (n : ℕ) (path name : List ℕ) (count : ℕ) → AreRows (count_facts n path name count)
 count_rows n path name count = (
@@ -334,11 +342,11 @@ node_all_rows b n x y path name values =
 
 tree_row : (owner : ℕ) (name : List PieceData) (ps : Params) (body : List PieceData) → are_words name ≡ true → begins_d name ≡ true → IsBody (is_variadic ps) body
     → IsRow (fact owner name ps body)
-tree_row owner name ps body h b is = record { words = h; begins = b; body = is }
+tree_row owner name ps body h b is = record { words = h; begins = b; body = is; titled = refl }
 
 link_row : (nodes : List NodeData) (mark : List ℕ) (l : List ℕ × ℕ) → are_words (lit mark ∷ form l.0 ∷ []) ≡ true → begins_d (lit mark ∷ []) ≡ true → IsRow (link nodes mark l)
 link_row nodes [] (w, id) h b = cc
-link_row nodes (c ∷ t) (w, id) h b = record { words = h; begins = b; body = body_id_at nodes id }
+link_row nodes (c ∷ t) (w, id) h b = record { words = h; begins = b; body = body_id_at nodes id; titled = refl }
 
 label_rows : (nodes : List NodeData) (n : ℕ) (x : NodeData) → AreRows (label_facts nodes n x)
 label_rows nodes n x = map_hold IsRow (λ label. link nodes (codes "DT_N_NODELABEL_") (label, n)) (λ label. link_row nodes (codes "DT_N_NODELABEL_") (label, n) refl refl) x.labels
@@ -352,7 +360,7 @@ place_rows nodes compat i id = (tree_row id _ params.Plain (id_at nodes id) refl
 number_things : (ks : List ℕ) → AreThings (map (λ k. num k ∷ []) ks)
 unfolding spells
 number_things [] = tt
-number_things (k ∷ ks) = (subst IsThing (sym (append-nil (decimal k))) (number_thing k), number_things ks)
+number_things (k ∷ ks) = ((subst IsThing (sym (append-nil (decimal k))) (number_thing k), refl), number_things ks)
 
 okay_rows : (nodes : List NodeData) (first : ℕ) (i : InstData) → AreRows (okay_facts nodes first i)
 okay_rows nodes first i =
@@ -405,23 +413,23 @@ each_at P f from (x ∷ xs) h =
     later : (n k : ℕ) → n + suc k ≡ n + 1 + k
     later n k = omega arith
 
-titled_node_rows : (b : BoundData) (n : ℕ) (x : NodeData) → HasBytes b → slice_get b.tree.nodes n ≡ Some x → AreRows (titled_node b n x)
-titled_node_rows b n x has there_ = by_node (slice_get b.nodes n) refl
+titled_node_rows : (b : BoundData) (n : ℕ) (x : NodeData) → IsWellFormed b.tree → HasBytes b → slice_get b.tree.nodes n ≡ Some x → AreRows (titled_node b n x)
+titled_node_rows b n x w has there_ = by_node (slice_get b.nodes n) refl
   where
     by_node : (o : Option BoundNodeData) → slice_get b.nodes n ≡ o → AreRows (option_map_or (λ y. titled x.path (node_facts b n x y)) o [])
     by_node None e = tt
-    by_node (Some y) e = titled_rows x.path (node_facts b n x y) (node_all_rows b n x y (has.paths n x there_) (has.names n x there_) (has.values n y e))
+    by_node (Some y) e = titled_rows x.path (node_facts b n x y) (path_title b.tree n x w there_) (node_all_rows b n x y (path_bytes b.tree n x w there_) (name_bytes b.tree n x w there_) (has n y e))
 
-facts_rows : (b : BoundData) → HasBytes b → AreRows (facts b)
-facts_rows b has =
+pub facts_rows : (b : BoundData) → IsWellFormed b.tree → HasBytes b → AreRows (facts b)
+facts_rows b w has =
     both_hold IsRow (each (titled_node b) 0 b.tree.nodes) _
-    (each_at IsRow (titled_node b) 0 b.tree.nodes (λ k x e. subst (λ n. Hold IsRow (titled_node b n x)) (sym (zero-add k)) (titled_node_rows b k x has e)))
-    (titled_rows (codes "tree") (tree_facts b) (tree_rows b))
+    (each_at IsRow (titled_node b) 0 b.tree.nodes (λ k x e. subst (λ n. Hold IsRow (titled_node b n x)) (sym (zero-add k)) (titled_node_rows b k x w has e)))
+    (titled_rows (codes "tree") (tree_facts b) refl (tree_rows b))
 
 all_rows : (fs : List FactData) → AreRows fs → All IsRow fs
 all_rows [] h = All-nil IsRow
 all_rows (f ∷ fs) h = All-cons IsRow f fs h.0 (all_rows fs h.1)
 
 -- each definition of a bound tree is a row
-pub is_row : (b : BoundData) (f : FactData) → HasBytes b → Contains (facts b) f → IsRow f
-is_row b f has h = All-contains IsRow (facts b) f (all_rows (facts b) (facts_rows b has)) h
+pub is_row : (b : BoundData) (f : FactData) → IsWellFormed b.tree → HasBytes b → Contains (facts b) f → IsRow f
+is_row b f w has h = All-contains IsRow (facts b) f (all_rows (facts b) (facts_rows b w has)) h

@@ -79,7 +79,7 @@ decimal_token spaced n =
     let d = decimal_digits n in
     subst (λ w. IsToken (a_number spaced w)) (sym d.is) (number_token spaced d.first d.rest d.first_digit (digits_words d.rest d.rest_digits))
 
-decimal_word : (n : ℕ) → list_all is_word_byte (decimal n) ≡ true
+pub decimal_word : (n : ℕ) → list_all is_word_byte (decimal n) ≡ true
 decimal_word n =
     let d = decimal_digits n in
     subst (λ w. list_all is_word_byte w ≡ true) (sym d.is) (and_from _ _ (digit_word d.first d.first_digit) (digits_words d.rest d.rest_digits))

@@ -1,10 +1,10 @@
 -- That the definitions of the header are read from their lines.
-use Rattle.std.specs.Prelude.{◌≡◌, ◌++◌, ℕ, Bool, false, true, List, [], ◌∷◌, Some, codes, drop, nat_lt, slice_get}
+use Rattle.std.specs.Prelude.{◌≡◌, ◌++◌, ◌&&◌, ℕ, Bool, nat_eq, not, false, true, List, [], ◌∷◌, Some, codes, drop, nat_lt, slice_get}
 use Rattle.std.specs.List.{Contains, list_all}
 use Rattle.edt_base.specs.BoundData.{BoundData}
 use Rattle.edt_base.specs.BoundNodeData.{BoundNodeData}
-use Rattle.edt_base.specs.NodeData.{NodeData}
 use Rattle.edt_base.specs.PropData.{PropData}
+use Rattle.edt_base.specs.TreeData.{IsWellFormed}
 use Rattle.edt_base.specs.ValData.{ValData, str_val, strs_val}
 use Rattle.c_tokens.specs.declared.tok.Tok.{Tok}
 use Rattle.c_tokens.specs.Lexed.{lexed}
@@ -30,11 +30,13 @@ texts_of _ = []
 abbrev pub has_bytes : PropData → Bool
 has_bytes p = list_all is_bytes (texts_of p.val)
 
--- the texts that the header has in string literals are made of bytes
-pub record HasBytes (b : BoundData) : Type 0 where
-  pub paths : (n : ℕ) (x : NodeData) → slice_get b.tree.nodes n ≡ Some x → is_bytes x.path ≡ true
-  pub names : (n : ℕ) (x : NodeData) → slice_get b.tree.nodes n ≡ Some x → is_bytes x.name ≡ true
-  pub values : (n : ℕ) (y : BoundNodeData) → slice_get b.nodes n ≡ Some y → list_all has_bytes y.props ≡ true
+-- a text that stands within a comment and within a line
+abbrev pub is_title : List ℕ → Bool
+is_title text = list_all (λ c. not (nat_eq c 10) && not (nat_eq c 42)) text
+
+-- the texts of all values are made of bytes
+abbrev pub HasBytes : BoundData → Type 0
+HasBytes b = (n : ℕ) (y : BoundNodeData) → slice_get b.nodes n ≡ Some y → list_all has_bytes y.props ≡ true
 
 -- ---- lines
 
@@ -63,4 +65,4 @@ pub record IsReadAsDefined (f : FactData) : Type 0 where
 
 -- each definition of a bound tree is read from its line
 abbrev pub LinesAreRead : Type 0
-LinesAreRead = (b : BoundData) (f : FactData) → HasBytes b → Contains (facts b) f → IsReadAsDefined f
+LinesAreRead = (b : BoundData) (f : FactData) → IsWellFormed b.tree → HasBytes b → Contains (facts b) f → IsReadAsDefined f

@@ -3,6 +3,7 @@
 ghost use Rattle.std.specs.Prelude.{◌≡◌};
 ghost use Rattle.dt_api.specs.ApiText.{api_text};
 ghost use Rattle.dt_api.specs.HeaderLaw.{LinesAreRead};
+ghost use Rattle.dt_api.specs.HeaderRows.{HeaderIsRead};
 ghost use Rattle.dt_api.specs.Laws.{ApiTextIsRead};
 
 use crate::text::API_TEXT;
@@ -22,7 +23,14 @@ pub fn the_api_text_is_read()
 
 /// Each definition of a header is read from its line: the line is made of tokens, and is the
 /// directive that defines the definition's name with its parameters and the tokens of its body. The
-/// texts that stand in string literals are to be made of bytes.
+/// texts of values are to be made of bytes.
 pub fn header_lines_are_read()
     ensures { LinesAreRead }
+{}
+
+/// The header of a bound tree is read row by row: its lines are blank or define exactly the bound
+/// tree's definitions, each name once, so that each name has the macro of its first definition and
+/// no rule of C is broken. The texts of values are to be made of bytes.
+pub fn the_header_is_read()
+    ensures { HeaderIsRead }
 {}
