@@ -5,5 +5,6 @@ pub mod Entering
 pub mod Loading
 pub mod Ordering
 pub mod Phases
+pub mod Relating
 pub mod Requiring
 pub mod Typing

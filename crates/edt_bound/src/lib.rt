@@ -4,6 +4,7 @@
 mod addresses;
 mod matching;
 mod ordering;
+mod relations;
 mod typing;
 
 pub use matching::matches;
