@@ -1,6 +1,8 @@
 pub mod Addresses
+pub mod Assembling
 pub mod Binding
 pub mod BoundTree
+pub mod Clashing
 pub mod Entering
 pub mod Loading
 pub mod Ordering
