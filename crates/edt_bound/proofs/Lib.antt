@@ -1,3 +1,7 @@
 pub mod AddressSteps
 pub mod MatchSteps
+pub mod Members
 pub mod PhaseSteps
+pub mod Ranges
+pub mod RelationSteps
+pub mod SupportSteps

@@ -6,7 +6,7 @@ ghost use Rattle.std.specs.List.Sorted.{IsStrictlyIncreasing};
 ghost use Rattle.std.specs.Option.{option_map};
 ghost use Rattle.edt_base.specs.EntryData.{EntryData};
 ghost use Rattle.edt_base.specs.PropData.{IsTyped};
-ghost use Rattle.dep_order.specs.Order.{AreWithin};
+ghost use Rattle.dep_order.specs.Order.{AreWithin, required};
 ghost use Rattle.dep_order.specs.Turns.{lists};
 ghost use Rattle.edt_bound.specs.Relating.{AreNeedsOf, AreSupportsOf, references, with_supporter};
 ghost use Rattle.edt_bound.specs.Requiring.{referred};
@@ -47,6 +47,7 @@ pub(crate) fn needs_of(
     ensures rising { IfOk result (λ v. IsStrictlyIncreasing v.items) }
     ensures within { IfOk result (λ v. All (λ other. other < length t.now.nodes) v.items) }
 {
+    t.is_well_formed();
     let mut ids = references(alloc, t, id, props, irqs)?;
     ids.retain(|other| *other != id);
     ids.sort_unstable();
@@ -118,9 +119,18 @@ pub(crate) fn supports_of(
     let count = needs.len();
     let mut supports = no_ids(alloc, count)?;
     for place in 0..count {
-        add_supporter(&mut supports, needs[place].as_slice(), NodeId(place as u32))?;
+        let id = NodeId(place as u32);
+        add_supporter(&mut supports, required(needs, id), id)?;
     }
     Ok(supports)
+}
+
+// What a node requires.
+fn required(needs: &Vec<Vec<NodeId>>, id: NodeId) -> &[NodeId]
+    requires { id < length needs.now.items }
+    ensures { result.now ≡ required (lists needs.now.items) id }
+{
+    needs[id.0 as usize].as_slice()
 }
 
 // As many empty lists.
