@@ -1,4 +1,5 @@
 pub mod AddressSteps
+pub mod InstanceSteps
 pub mod MatchSteps
 pub mod Members
 pub mod PhaseSteps

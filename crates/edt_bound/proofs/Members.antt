@@ -1,6 +1,6 @@
 -- What is in lists that are made of others.
-use Rattle.std.proofs.Common.{◌≡◌, ◌≢◌, ◌==◌, ◌∙◌, ◌∷◌, [], ◌⊎◌, ℕ, Bool, true, false, cond, not, List, Option, Some, None, map, refl, sym, ap, subst, inl, inr, arith}
-use Rattle.std.specs.List.{Contains, filter, filter_map, flat_map}
+use Rattle.std.proofs.Common.{◌≡◌, ◌≢◌, ◌==◌, ◌∙◌, ◌∷◌, [], ℕ, Bool, true, false, cond, not, List, Option, Some, None, map, refl, sym, ap, subst, inl, inr, arith}
+use Rattle.std.specs.List.{Contains, filter, flat_map}
 use Rattle.std.specs.Option.{option_to_list}
 use Rattle.std.proofs.lemmas.Bool.Decides.{nat_tests}
 use Rattle.std.proofs.lemmas.List.Elements.{Contains-append_cases, Contains-append_left, Contains-append_right}
@@ -77,6 +77,7 @@ kept_with {X = X} p (x ∷ xs) y c t =
     at_head : (b : Bool) → x ≡ y → b ≡ true → Contains (cond b (x ∷ filter p xs) (filter p xs)) y
     at_head true same e = subst (λ (z : X). Contains (x ∷ filter p xs) z) same (here x (filter p xs))
     at_head false same e = cc
+
     behind : (b : Bool) → Contains (filter p xs) y → Contains (cond b (x ∷ filter p xs) (filter p xs)) y
     behind true d = there x (filter p xs) y d
     behind false d = d

@@ -1,14 +1,12 @@
 -- How the lists of required nodes are made.
-use Rattle.std.proofs.Common.{◌≡◌, ◌≢◌, ◌==◌, ◌∙◌, ◌<◌, ◌↔◌, ◌++◌, ◌∷◌, [], ◌⊎◌, ℕ, Bool, true, false, not, List, Option, Some, None, IfSome, length, map, nat_eq, slice_get, refl, sym, ap, subst, inl, inr, arith}
+use Rattle.std.proofs.Common.{◌≡◌, ◌==◌, ◌∙◌, ◌<◌, ◌++◌, ◌∷◌, [], ℕ, Bool, not, List, Option, Some, None, IfSome, length, map, nat_eq, slice_get, refl, sym, ap, subst, inl, inr, arith}
 use Rattle.std.specs.List.{All, Contains, dedup, filter, filter_map, flat_map}
-use Rattle.std.specs.List.Sorted.{IsPermutation, IsSorted, IsStrictlyIncreasing}
+use Rattle.std.specs.List.Sorted.{IsPermutation}
 use Rattle.std.specs.Option.{option_map, option_to_list}
-use Rattle.std.specs.Ordering.{nat_cmp}
-use Rattle.std.proofs.lemmas.List.Elements.{All-append, All-cons, All-head, All-map, All-nil, All-tail, All-contains, Contains-append_cases, Contains-append_left, Contains-append_right, All-filter}
+use Rattle.std.proofs.lemmas.List.Elements.{All-append, All-cons, All-head, All-map, All-nil, All-tail, Contains-append_cases, Contains-append_left, Contains-append_right, All-filter}
 use Rattle.std.proofs.lemmas.List.Kept.{Contains-dedup_nat, Contains-from_dedup}
 use Rattle.std.proofs.lemmas.List.Filters.{All-dedup}
 use Rattle.std.proofs.lemmas.List.Sorted.{All-permutation, Contains-permutation, IsPermutation-sym}
-use Rattle.std.proofs.lemmas.Map.Keys.{IsStrictlyIncreasing-dedup}
 use Rattle.edt_base.specs.BoundNodeData.{BoundNodeData}
 use Rattle.edt_base.specs.EntryData.{EntryData}
 use Rattle.edt_base.specs.NodeData.{NodeData}
@@ -74,6 +72,7 @@ needs_from nodes id props irqs refs kept moved needs e f perm g n is_props is_ir
           refers = refers_from nodes n id other (subst (λ xs. Contains xs other) all both.0);
           other_than = differs other id both.1;
         }
+
     from : refs ≡ references nodes id n.props n.irqs → Requires nodes n id other → Contains needs other
     from all r =
         let ref : Contains refs other = subst (λ xs. Contains xs other) (sym all) (refers_with nodes n id other r.refers) in

@@ -1,5 +1,5 @@
 -- How each node is put into the lists of those that it requires.
-use Rattle.std.proofs.Common.{◌≡◌, ◌∙◌, ◌||◌, ◌+◌, ◌<◌, ◌≤◌, ◌↔◌, ◌++◌, ◌∷◌, [], ◌⊎◌, ℕ, zero, suc, Bool, true, false, cond, List, Some, All, length, map, filter, nat_eq, replicate, slice_get, slice_index_or, slice_set, refl, sym, ap, subst, inl, inr, arith}
+use Rattle.std.proofs.Common.{◌≡◌, ◌∙◌, ◌||◌, ◌+◌, ◌<◌, ◌≤◌, ◌++◌, ◌∷◌, [], ℕ, zero, suc, Bool, true, false, cond, List, All, length, map, filter, nat_eq, replicate, slice_get, slice_index_or, slice_set, refl, sym, ap, subst, inl, inr, arith}
 use Rattle.std.specs.List.{AllPairs, Contains, list_any, range_with_len}
 use Rattle.std.specs.List.Sorted.{IsStrictlyIncreasing}
 use Rattle.std.specs.Option.{option_map_or}
@@ -164,6 +164,7 @@ supports_follow bound h id n at other =
     let has : required (map (λ (m : BoundNodeData). m.supports) bound) id ≡ n.supports =
     list_at (λ (m : BoundNodeData). m.supports) bound id ∙ ap (λ o. option_map_or (λ (m : BoundNodeData). m.supports) o []) at in
     let needs : required (map (λ (m : BoundNodeData). m.needs) bound) other ≡ needs_at bound other = list_at (λ (m : BoundNodeData). m.needs) bound other in
-    let both = h.each id other in
-    (λ c. subst (λ xs. Contains xs id) needs (both.0 (subst (λ xs. Contains xs other) (sym has) c)),
-     λ c. subst (λ xs. Contains xs other) has (both.1 (subst (λ xs. Contains xs id) (sym needs) c)))
+    let both = h.each id other in (
+      λ c. subst (λ xs. Contains xs id) needs (both.0 (subst (λ xs. Contains xs other) (sym has) c)),
+      λ c. subst (λ xs. Contains xs other) has (both.1 (subst (λ xs. Contains xs id) (sym needs) c)),
+    )

@@ -4,6 +4,7 @@ pub mod Binding
 pub mod BoundTree
 pub mod Clashing
 pub mod Entering
+pub mod Gathering
 pub mod Loading
 pub mod Ordering
 pub mod Phases

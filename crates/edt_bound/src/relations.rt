@@ -15,7 +15,7 @@ use edt_base::{Entry, Irq, NodeId, Prop, PropType, Tree, Val};
 use std::alloc::{AllocError, Global};
 use std::marker::Model;
 
-/// The nodes that require a node.
+/// Nodes by their places.
 #[derive(Drop)]
 pub(crate) struct Ids {
     pub(crate) list: Vec<NodeId>,
@@ -27,6 +27,17 @@ impl Model for Ids {
     ghost Value = { List ℕ };
 
     ghost view = { λ i. i.list.items };
+}
+
+impl Ids {
+    /// No node.
+    pub(crate) fn new(alloc: Global) -> Ids
+        ensures { result ≡ [] }
+    {
+        Ids {
+            list: Vec::new(alloc),
+        }
+    }
 }
 
 /// The nodes that a node with these properties and interrupts requires, in preorder, each once
@@ -107,10 +118,7 @@ fn add_ends(ids: &mut Vec<NodeId>, entries: &[Option<Entry>]) -> Result<(), Allo
 
 /// The nodes that require each node, in preorder, each once, where these are the nodes that each
 /// requires, rising. Takes time proportional to these. The one error is want of memory.
-pub(crate) fn supports_of(
-    alloc: Global,
-    needs: &Vec<Vec<NodeId>>,
-) -> Result<Vec<Ids>, AllocError>
+pub(crate) fn supports_of(alloc: Global, needs: &Vec<Vec<NodeId>>) -> Result<Vec<Ids>, AllocError>
     requires few { length needs.now.items < 2 ^ 32 }
     requires within { AreWithin (lists needs.now.items) }
     requires rising { All IsStrictlyIncreasing (lists needs.now.items) }
@@ -139,9 +147,7 @@ fn no_ids(alloc: Global, count: usize) -> Result<Vec<Ids>, AllocError>
 {
     let mut all = Vec::with_capacity(alloc, count)?;
     for _ in 0..count {
-        all.push(Ids {
-            list: Vec::new(alloc),
-        })?;
+        all.push(Ids::new(alloc))?;
     }
     Ok(all)
 }

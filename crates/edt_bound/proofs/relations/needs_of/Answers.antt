@@ -1,5 +1,4 @@
-use Rattle.std.proofs.Common.{rules, subst, sym, nat_eq}
-use Rattle.std.specs.List.{dedup}
+use Rattle.std.proofs.Common.{rules, subst, sym}
 use Rattle.std.specs.List.Sorted.{IsStrictlyIncreasing}
 use Rattle.std.proofs.lemmas.Fn.{filter_same}
 use Rattle.std.proofs.lemmas.List.Filters.{dedup_is}

@@ -1,4 +1,4 @@
-use Rattle.std.proofs.Common.{◌≡◌, ◌<◌, [], length, subst, sym, arith}
+use Rattle.std.proofs.Common.{◌<◌, [], length, subst, sym, arith}
 use Rattle.std.specs.List.Sorted.{IsStrictlyIncreasing}
 use Rattle.dep_order.specs.Turns.{lists}
 use Rattle.dep_order.proofs.Turning.{lists_length}
