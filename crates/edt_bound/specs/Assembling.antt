@@ -128,10 +128,10 @@ pub record AreAnswered (t : TreeData) (lib : LibData) (nodes : List BoundNodeDat
   pub whole : All (IsBoundNode (length t.nodes)) nodes
 
 -- what is bound to all nodes, with the order of dependencies
-pub record AreBound (t : TreeData) (lib : LibData) (nodes : List BoundNodeData) (order : List ℕ) : Type 0 where
-  pub nodes : AreBoundNodes t lib (asked_of t lib) nodes
-  pub order : IsOrder (map needs_in nodes) order
-  pub as_many : length nodes ≡ length t.nodes
-  pub whole : All (IsBoundNode (length nodes)) nodes
-  pub once : IsPermutation order (range_with_len 0 (length nodes))
-  pub ords : (id : ℕ) (n : BoundNodeData) → slice_get nodes id ≡ Some n → slice_get order n.ord ≡ Some id
+pub record AreBound (t : TreeData) (lib : LibData) (bound : List BoundNodeData) (ids : List ℕ) : Type 0 where
+  pub nodes : AreBoundNodes t lib (asked_of t lib) bound
+  pub order : IsOrder (map needs_in bound) ids
+  pub as_many : length bound ≡ length t.nodes
+  pub whole : All (IsBoundNode (length bound)) bound
+  pub once : IsPermutation ids (range_with_len 0 (length bound))
+  pub ords : (id : ℕ) (n : BoundNodeData) → slice_get bound id ≡ Some n → slice_get ids n.ord ≡ Some id

@@ -40,7 +40,7 @@ impl Model for Answers {
 /// the first of these that has one.
 ///
 /// `m` must be the matches of this tree and library.
-pub(crate) fn answers(
+pub(crate) fn all_answers(
     alloc: Global,
     t: &Tree,
     lib: &Library,

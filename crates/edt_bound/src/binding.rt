@@ -9,7 +9,7 @@ ghost use Rattle.edt_bound.specs.Clashing.{IsClashTold, IsWithoutClash};
 ghost use Rattle.edt_bound.specs.Loading.{IsLoadedFor};
 ghost use Rattle.pha_nexus.specs.Matching.{IsMatches};
 
-use crate::answering::answers;
+use crate::answering::all_answers;
 use crate::assembling::{linked, unlinked};
 use crate::buses::all_buses;
 use crate::instances::instances;
@@ -90,7 +90,7 @@ fn answered_nodes(
     ensures answered { IfOk result (λ v. AreAnswered t.now lib.now v.items) }
     ensures refused { IfErr result (IsUnbound t.now lib.now) }
 {
-    let answers = match answers(alloc, t, lib, m) {
+    let answers = match all_answers(alloc, t, lib, m) {
         Ok(answers) => answers,
         Err(end) => return Err(end),
     };
