@@ -26,7 +26,9 @@ use Rattle.edt_base.specs.NodeData.{NodeData, holds_number}
 use Rattle.edt_base.specs.Nodes.{is_okay, okay_of}
 use Rattle.edt_base.specs.TreeData.{IsWellFormed, TreeData}
 use Rattle.dep_order.proofs.Listing.{contains_at, cons_cases, none_in}
-use Rattle.edt_bound.specs.Gathering.{AreAdded, AreGathered, Entries, IsAdded, held, inst_of, is_last, okay_first, some_of, strings_at, with_last}
+use Rattle.bind_merge.proofs.NamedFiles.{tree-get}
+use Rattle.pha_nexus.specs.Matching.{compats_at}
+use Rattle.edt_bound.specs.Gathering.{AreAdded, AreGathered, Entries, IsAdded, held, inst_of, is_last, okay_first, some_of, with_last}
 use Rattle.edt_bound.proofs.Members.{kept_with}
 use Rattle.edt_bound.proofs.Ranges.{filter_range_more, in_range, range_below}
 
@@ -70,16 +72,6 @@ put_fresh xs id h = ap (λ (b : Bool). if b then xs else xs ++ id ∷ []) (not_l
 
 -- ---- one string
 
-pub tree-get : {X : Type 0} (q : List ℕ) (es : List (List ℕ × X)) → lookup (λ k. is_eq (slice_cmp nat_cmp q k)) es ≡ lookup (bytes_eq q) es
-tree-get q es = ap (λ (t : List ℕ → Bool). lookup t es) (λ i k. is_eq-slice_cmp q k i)
-
-pub tree-sets : {X : Type 0} (old new : List (List ℕ × X)) (name : List ℕ) (o : Option X)
-    → ((q : List ℕ) → lookup (λ k. is_eq (slice_cmp nat_cmp q k)) new ≡ cond (is_eq (slice_cmp nat_cmp name q)) o (lookup (λ k. is_eq (slice_cmp nat_cmp q k)) old))
-    → (q : List ℕ) → lookup (bytes_eq q) new ≡ cond (bytes_eq name q) o (lookup (bytes_eq q) old)
-tree-sets old new name o h q =
-    sym (tree-get q new) ∙ (h q ∙ (ap (λ b. cond b o (lookup (λ k. is_eq (slice_cmp nat_cmp q k)) old)) (is_eq-slice_cmp name q)
-    ∙ ap (cond (bytes_eq name q) o) (tree-get q old)))
-
 pub same_key : (compat key : List ℕ) → slice_cmp nat_cmp compat key ≡ Equal → key ≡ compat
 same_key compat key e = sym ((bytes_eq-Decides compat key).0 (sym (is_eq-slice_cmp compat key) ∙ ap is_eq e))
 
@@ -88,11 +80,6 @@ held_is entries compat ids e = ap (λ (o : Option (List ℕ)). unwrap_or o []) (
 
 pub held_none : (entries : Entries) (compat : List ℕ) → None ≡ lookup (λ k. is_eq (slice_cmp nat_cmp compat k)) entries → [] ≡ held entries compat
 held_none entries compat e = ap (λ (o : Option (List ℕ)). unwrap_or o []) (e ∙ tree-get compat entries)
-
-pub others_stay : (old new : Entries) (name : List ℕ)
-    → ((q : List ℕ) → lookup (λ k. is_eq (slice_cmp nat_cmp q k)) new ≡ cond (is_eq (slice_cmp nat_cmp name q)) None (lookup (λ k. is_eq (slice_cmp nat_cmp q k)) old))
-    → (q : List ℕ) → bytes_eq name q ≡ false → lookup (bytes_eq q) new ≡ lookup (bytes_eq q) old
-others_stay old new name h q e = tree-sets old new name None h q ∙ ap (λ b. cond b None (lookup (bytes_eq q) old)) e
 
 -- a string is taken out, and put back with the node
 pub added : (old mid new : Entries) (compat key ids more : List ℕ) (id : ℕ) → key ≡ compat → ids ≡ held old compat
@@ -152,7 +139,7 @@ held_some : (xs : List ℕ) → unwrap_or (some_of xs) [] ≡ xs
 held_some [] = refl
 held_some (x ∷ xs) = refl
 
-lists : (nodes : List NodeData) (id : ℕ) (q : List ℕ) → list_any (λ c. bytes_eq c q) (strings_at nodes id) ≡ lists_at nodes q id
+lists : (nodes : List NodeData) (id : ℕ) (q : List ℕ) → list_any (λ c. bytes_eq c q) (compats_at nodes id) ≡ lists_at nodes q id
 lists nodes id q = by_node (slice_get nodes id)
   where
     by_node : (o : Option NodeData) → list_any (λ c. bytes_eq c q) (unwrap_or (option_map (λ (n : NodeData). n.compats) o) [])
@@ -163,7 +150,7 @@ lists nodes id q = by_node (slice_get nodes id)
 pub none_gathered : (nodes : List NodeData) (entries : Entries) → entries ≡ [] → AreGathered nodes 0 entries
 none_gathered nodes entries e q = ap (lookup (bytes_eq q)) e
 
-pub one_gathered : (nodes : List NodeData) (id : ℕ) (compats : List (List ℕ)) (old new : Entries) → compats ≡ strings_at nodes id
+pub one_gathered : (nodes : List NodeData) (id : ℕ) (compats : List (List ℕ)) (old new : Entries) → compats ≡ compats_at nodes id
     → AreGathered nodes id old → AreAdded compats id old new → AreGathered nodes (id + 1) new
 one_gathered nodes id compats old new e h step q =
     step q ∙ ap (λ (b : Bool). if b then Some (with_last (held old q) id) else lookup (bytes_eq q) old) tested

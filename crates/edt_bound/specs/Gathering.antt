@@ -1,5 +1,5 @@
 -- How instances are gathered: for each compatible string the nodes that list it, node by node and string by string.
-use Rattle.std.specs.Prelude.{◌≡◌, ◌-◌, ◌++◌, ◌∷◌, [], ℕ, Bool, List, Option, Some, None, filter, length, not, option_map, slice_get, unwrap_or, if◌then◌else◌}
+use Rattle.std.specs.Prelude.{◌≡◌, ◌-◌, ◌++◌, ◌∷◌, [], ℕ, Bool, List, Option, Some, None, filter, length, not, slice_get, unwrap_or, if◌then◌else◌}
 use Rattle.std.specs.List.{list_any, range_with_len}
 use Rattle.std.specs.Map.{lookup}
 use Rattle.std.specs.Str.{bytes_eq}
@@ -43,10 +43,6 @@ some_of (id ∷ ids) = Some (id ∷ ids)
 abbrev pub AreGathered : List NodeData → ℕ → Entries → Type 0
 AreGathered nodes place entries = (q : List ℕ) → lookup (bytes_eq q) entries
     ≡ some_of (filter (lists_at nodes q) (range_with_len 0 place))
-
--- the strings of a node
-abbrev pub strings_at : List NodeData → ℕ → List (List ℕ)
-strings_at nodes id = unwrap_or (option_map (λ (n : NodeData). n.compats) (slice_get nodes id)) []
 
 -- of some nodes the okay ones, then the others
 abbrev pub okay_first : List NodeData → List ℕ → List ℕ

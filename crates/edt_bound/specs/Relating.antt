@@ -31,8 +31,8 @@ pub record AreSupportsOf (needs supports : List (List ℕ)) : Type 0 where
 -- what a node refers to, in any order and maybe more than once: its parent, then the nodes of its properties and
 -- interrupts
 abbrev pub references : List NodeData → ℕ → List PropData → List EntryData → List ℕ
-references nodes id props irqs = option_to_list (parent_of nodes id) ++ flat_map (λ (p : PropData). referred p.ty p.val) props
-    ++ map (λ (irq : EntryData). irq.controller) irqs
+references nodes id props irqs = option_to_list (parent_of nodes id)
+    ++ flat_map (λ (p : PropData). referred p.ty p.val) props ++ map (λ (irq : EntryData). irq.controller) irqs
 
 -- the lists with a node at the end of that of each of some nodes
 abbrev pub with_supporter : List (List ℕ) → List ℕ → ℕ → List (List ℕ)

@@ -7,16 +7,18 @@ ghost use Rattle.std.specs.Str.{bytes_eq};
 ghost use Rattle.edt_base.specs.Instances.{AreInstances};
 ghost use Rattle.edt_base.specs.Nodes.{okay_of};
 ghost use Rattle.edt_bound.specs.Gathering.{AreAdded, AreGathered, IsAdded, held, inst_of};
-ghost use Rattle.edt_bound.specs.Gathering.{is_last, okay_first, strings_at, with_last};
+ghost use Rattle.edt_bound.specs.Gathering.{is_last, okay_first, with_last};
 
+use crate::matching::compats_of;
 use crate::relations::Ids;
 use edt_base::{Inst, NodeId, Text, Tree};
 use std::alloc::{AllocError, Global};
 use std::collections::BTreeMap;
 
 /// The instances of each compatible string of a tree (Zephyr 3.7, "Devicetree API", instance
-/// numbers): the okay nodes that list it in preorder, then the others in preorder. The strings stand
-/// in byte order. Takes time n log n in the strings of all nodes. The one error is want of memory.
+/// numbers): the okay nodes that list it in preorder, then the others in preorder. The strings
+/// stand in byte order. Takes time n log n in the strings of all nodes. The one error is want of
+/// memory.
 pub(crate) fn instances(alloc: Global, t: &Tree) -> Result<Vec<Inst>, AllocError>
     ensures { IfOk result (λ v. AreInstances t.now.nodes v.items) }
 {
@@ -77,16 +79,9 @@ fn gathered(alloc: Global, t: &Tree) -> Result<BTreeMap<Text, Ids>, AllocError>
     let mut listing = BTreeMap::new(alloc);
     for place in 0..t.nodes().len() {
         let id = NodeId(place as u32);
-        add_node(alloc, &mut listing, id, strings_of(t, id))?;
+        add_node(alloc, &mut listing, id, compats_of(t, id))?;
     }
     Ok(listing)
-}
-
-fn strings_of(t: &Tree, id: NodeId) -> &[Text]
-    requires { id < length t.now.nodes }
-    ensures { result.now ≡ strings_at t.now.nodes id }
-{
-    t.node(id).compats.as_slice()
 }
 
 // Puts a node to the nodes of each of these strings.

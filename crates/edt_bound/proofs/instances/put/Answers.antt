@@ -1,5 +1,5 @@
 use Rattle.std.proofs.Common.{Some}
-use Rattle.edt_bound.proofs.InstanceSteps.{tree-sets}
+use Rattle.bind_merge.proofs.NamedFiles.{tree-sets}
 use Rattle.edt_bound.proofs.instances.put.Goals as goal
 
 pub returns : goal.returns
