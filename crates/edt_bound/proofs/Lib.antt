@@ -1,9 +1,14 @@
 pub mod AddressSteps
+pub mod EnterSteps
+pub mod EntryFacts
 pub mod InstanceSteps
+pub mod LinkSteps
 pub mod MatchSteps
 pub mod Members
+pub mod NodeFacts
 pub mod OrdinalSteps
 pub mod PhaseSteps
 pub mod Ranges
 pub mod RelationSteps
 pub mod SupportSteps
+pub mod ZipFacts
