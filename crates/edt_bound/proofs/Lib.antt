@@ -1,4 +1,8 @@
 pub mod AddressSteps
+pub mod AnswerFacts
+pub mod BoundFacts
+pub mod BusFacts
+pub mod DoubleFacts
 pub mod EnterSteps
 pub mod EntryFacts
 pub mod InstanceSteps
@@ -7,8 +11,10 @@ pub mod MatchSteps
 pub mod Members
 pub mod NodeFacts
 pub mod OrdinalSteps
+pub mod OwnerFacts
 pub mod PhaseSteps
 pub mod Ranges
 pub mod RelationSteps
 pub mod SupportSteps
+pub mod ValidFacts
 pub mod ZipFacts

@@ -76,3 +76,8 @@ pub list_there : {X Y : Type 0} (f : X → List Y) (xs : List X) (i : ℕ) → o
 list_there f [] i = refl
 list_there f (x ∷ xs) zero = refl
 list_there f (x ∷ xs) (suc i) = list_there f xs i
+
+-- two functions that give the same
+pub map_alike : {X Y : Type 0} (g h : X → Y) (xs : List X) → ((x : X) → g x ≡ h x) → map g xs ≡ map h xs
+map_alike g h [] same = refl
+map_alike {Y = Y} g h (x ∷ xs) same = ap (λ (ys : List Y). g x ∷ ys) (map_alike g h xs same) ∙ ap (λ (y : Y). y ∷ map h xs) (same x)

@@ -63,6 +63,7 @@ fn bus_at(
     requires matches { IsMatches t.now.nodes lib.now m.now }
     ensures { IfOk result (λ b. b ≡ bus_at t.now.nodes lib.now id) }
 {
+    t.is_well_formed();
     let node = bus_node(m, id);
     let names = names_at(alloc, t, lib, m, node)?;
     Ok(OnBus { node, names })
