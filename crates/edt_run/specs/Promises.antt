@@ -1,48 +1,59 @@
 -- What a run promises: the cause of each status, what the output gained, and what the note says.
-use Rattle.std.specs.Prelude.{◌≡◌, ◌-◌, ◌^◌, ◌<◌, ◌≤◌, ◌⊎◌, ℕ, Bool, true, false, IsTrue, List, [], ◌∷◌, Option, Some, None, MatchOption, IfSome, Contains, length, if◌then◌else◌}
+use Rattle.std.specs.Prelude.{◌≡◌, ◌-◌, ◌^◌, ◌<◌, ◌≤◌, ◌⊎◌, ℕ, Bool, true, false, IsTrue, List, [], Option, Some, None, MatchOption, IfSome, Contains, length, if◌then◌else◌}
 use Rattle.edt_base.specs.declared.outside.Call.{Call}
 use Rattle.edt_base.specs.declared.outside.Call.TheVariants as call
-use Rattle.edt_base.specs.Outside.{FilesSeen, SinkSeen, Rose, Gains, GainsPrefix, IsSure, Wrote, held_of}
+use Rattle.edt_base.specs.Outside.{FilesSeen, SinkSeen, Rose, Gains, GainsPrefix, IsSure, Wrote, held_of, is_binding_below, names_below}
 use Rattle.edt_run.specs.declared.asked.Cmd.{Cmd}
 use Rattle.edt_run.specs.declared.asked.Cmd.TheVariants as cmd
 use Rattle.edt_run.specs.declared.top.Status.{Status}
 use Rattle.edt_run.specs.declared.top.Status.TheVariants as status
-use Rattle.edt_run.specs.Answer.{Answer, Given, IsGiven, refusal, refused, usage_line, write_line, memory_line, read_line, first_past}
+use Rattle.edt_run.specs.Answer.{Answer, Given, IsGiven, refusal, refused, usage_line, write_line, memory_line, read_line, limit_passed}
 use Rattle.edt_run.specs.ExpandAnswer.{IsExpandAnswer}
+use Rattle.edt_run.specs.GenAnswer.{Inputs, IsGenAnswer}
 use Rattle.edt_run.specs.Job.{JobData, job_of}
-use Rattle.edt_run.specs.SmallAnswer.{IsSmallAnswer}
 use Rattle.edt_run.specs.TreeAnswer.{IsTreeAnswer}
 
 -- ---- the answer to a job
 
--- by command: what it answers over its sources, where these are within the limit
-abbrev pub IsAnswerOf : Cmd → List (List ℕ) → List (List ℕ) → Answer → Type 0
-IsAnswerOf cmd.Gen (name ∷ names) (source ∷ sources) answer = IsSmallAnswer name source answer
-IsAnswerOf cmd.Gen _ _ answer = ⊥
-IsAnswerOf cmd.Dts names sources answer = IsTreeAnswer names sources answer
-IsAnswerOf cmd.Expand names sources answer = IsExpandAnswer names sources answer
+-- what `gen` and `check` are asked over
+abbrev pub inputs_of : List (List ℕ) → Given → Inputs
+inputs_of names given = record { names = names; sources = given.sources; files = given.files }
 
--- the limits on sources are met before every rule
+-- by command: what it answers over what was read, where this is within the limits
+abbrev pub IsAnswerOf : Cmd → List (List ℕ) → Given → Answer → Type 0
+IsAnswerOf cmd.Gen names given answer = IsGenAnswer true (inputs_of names given) answer
+IsAnswerOf cmd.Check names given answer = IsGenAnswer false (inputs_of names given) answer
+IsAnswerOf cmd.Dts names given answer = IsTreeAnswer names given.sources answer
+IsAnswerOf cmd.Expand names given answer = IsExpandAnswer names given.sources answer
+
+-- the limits on what is read are met before every rule
 abbrev pub IsAnswerTo : JobData → Given → Answer → Type 0
-IsAnswerTo job given answer = MatchOption (first_past job.cmd job.names given.sources)
-    (IsAnswerOf job.cmd job.names given.sources answer) (λ fault. answer ≡ refused fault)
+IsAnswerTo job given answer = MatchOption (limit_passed job given)
+    (IsAnswerOf job.cmd job.names given answer) (λ fault. answer ≡ refused fault)
 
 -- words that are no job are answered by status 2
 abbrev pub IsAnswer : Option JobData → Given → Answer → Type 0
 IsAnswer None given answer = answer ≡ refusal status.Usage usage_line
 IsAnswer (Some job) given answer = IsAnswerTo job given answer
 
+-- the name is one of those that a folder lists: that of a binding file below it, and one that the files hold, where
+-- they tell
+abbrev pub IsListed : Option (List (List ℕ × List ℕ)) → List ℕ → List ℕ → Type 0
+IsListed held dir name = IsTrue (is_binding_below dir name) × IfSome held (λ files. Contains (names_below dir files) name)
+
+abbrev pub IsListedByOne : Option (List (List ℕ × List ℕ)) → List (List ℕ) → List ℕ → Type 0
+IsListedByOne held dirs name = (dir : List ℕ) × (Contains dirs dir) × (IsListed held dir name)
+
 -- the calls of the outside by which a job reads
-abbrev pub IsReadOf : Option JobData → Call → Type 0
-IsReadOf None read = ⊥
-IsReadOf (Some job) (call.Read name) = Contains job.names name
-IsReadOf (Some job) (call.List name) = ⊥
+abbrev pub IsReadOf : Option (List (List ℕ × List ℕ)) → Option JobData → Call → Type 0
+IsReadOf held None read = ⊥
+IsReadOf held (Some job) (call.Read name) = Contains job.names name ⊎ IsListedByOne held job.dirs name
+IsReadOf held (Some job) (call.List dir) = Contains job.dirs dir
 
 -- a command may write lines before it refuses a later one
 abbrev pub is_early : Cmd → Bool
-is_early cmd.Gen = false
-is_early cmd.Dts = false
 is_early cmd.Expand = true
+is_early _ = false
 
 abbrev pub writes_early : Option JobData → Bool
 writes_early None = false
@@ -68,7 +79,7 @@ IsAnswerFrom files job answer = (given : Given) × (IsGiven (held_of files) job 
 -- a call of the files failed: it is one of the job's, the count rose, and where it is told, it is the
 -- last call that failed
 pub record ReadFailed (old new : FilesSeen) (job : Option JobData) (read : Call) : Type 0 where
-  pub is_of_job : IsReadOf job read
+  pub is_of_job : IsReadOf (held_of old) job read
   pub rose : Rose old.faults new.faults
   pub last : IfSome new.told (λ t. t.last ≡ Some read)
 

@@ -8,8 +8,10 @@ use std::marker::Model;
 /// A command.
 #[derive(Clone, Copy, Debug, PartialEq, Eq)]
 pub enum Cmd {
-    /// Write the header of a source.
+    /// Write the header of the sources, bound to the bindings.
     Gen,
+    /// Test the sources and the bindings, and write nothing.
+    Check,
     /// Write the tree that the sources leave, as a source.
     Dts,
     /// Write the lines of the last source, expanded over the definitions of those before it.
@@ -21,6 +23,8 @@ pub enum Cmd {
 pub struct Job {
     /// The command.
     pub cmd: Cmd,
+    /// The folders of the bindings, in order.
+    pub dirs: Vec<Text>,
     /// The names of the sources, in order; `-` is standard input.
     pub names: Vec<Text>,
 }
@@ -31,7 +35,7 @@ impl Model for Job {
 
     ghost Value = { JobData };
 
-    ghost view = { λ j. record { cmd = j.cmd; names = j.names.items } };
+    ghost view = { λ j. record { cmd = j.cmd; dirs = j.dirs.items; names = j.names.items } };
 
     ghost invariant = { λ j. 0 < length j.names.items };
 }

@@ -4,30 +4,31 @@
 
 ghost use Rattle.std.specs.Prelude.{◌≡◌, ◌<◌, ◌≤◌, IfOk, Some, false, length, true};
 ghost use Rattle.edt_base.specs.Outside.{held_of};
-ghost use Rattle.edt_run.specs.Answer.{refused};
+ghost use Rattle.edt_run.specs.Answer.{Given, names_limit};
 ghost use Rattle.edt_run.specs.ExpandAnswer.{IsExpandAnswer};
 ghost use Rattle.edt_run.specs.Promises.{IsAnswerOf, is_early, writes_early};
-ghost use Rattle.edt_run.specs.SmallAnswer.{IsSmallAnswer};
+ghost use Rattle.edt_run.specs.GenAnswer.{IsGenAnswer};
 ghost use Rattle.edt_run.specs.TreeAnswer.{IsTreeAnswer};
 ghost use Rattle.edt_run.specs.Steps.{IsRefusedBy, IsWanted, LeadsTo};
 
 use crate::asked::{Cmd, Job};
+use crate::bound_job::bound_of;
 use crate::definitions::definitions;
-use crate::node::Node;
-use crate::reader::read_small;
 use crate::refusal::{Refusal, refuse};
-use crate::sources::{Stop, read_sources};
+use crate::sources::{Read, Stop, read_job};
 use crate::top::Status;
-use crate::tree_job::tree_of;
+use crate::tree_job::printable_tree;
 use c_macro::Defs;
-use edt_base::{Bytes, End, Fault, Files, Place, Rule, Text, Tree};
+use edt_base::{Bound, Bytes, Call, End, Fault, Files, Place, Text, Tree};
 use std::alloc::{AllocError, Global};
 
 /// What a run wants to do.
 #[derive(Drop)]
 pub(crate) enum Decision {
-    /// Write the header of these nodes.
-    Header(Vec<Node>),
+    /// Write the header of this bound tree.
+    Header(Bound),
+    /// Write nothing: the tree was tested.
+    Tested,
     /// Write this tree as a source.
     Source(Tree),
     /// Write the lines of this text, expanded over these definitions; its name comes before it.
@@ -47,23 +48,25 @@ pub(crate) fn decide<F: Files>(
     ensures held { held_of (F.seen files.new) ≡ held_of (F.seen files.old) }
     ensures count { (F.seen files.old).faults ≤ (F.seen files.new).faults }
 {
-    match read_sources(alloc, job, files) {
-        Ok(sources) => over_sources(alloc, job, sources.as_slice()),
+    match read_job(alloc, job, files) {
+        Ok(read) => over_read(alloc, job, read),
         Err(stop) => stopped(alloc, stop),
     }
 }
 
-/// The refusal of a job whose sources couldn't be read.
+/// The refusal of a job that couldn't be read.
 fn stopped(alloc: Global, stop: Stop) -> Result<Decision, AllocError>
     ensures { IfOk result (λ d. LeadsTo false d (IsRefusedBy stop)) }
 {
     match stop {
-        Stop::Failed(name) => {
-            let line = format!(in alloc; "edt: read {}\n", name.as_str())?;
-            Ok(Decision::Refused(Refusal {
-                status: Status::Read,
-                line,
-            }))
+        Stop::Failed(call) => {
+            let line = match &call {
+                Call::List(name) | Call::Read(name) => {
+                    format!(in alloc; "edt: read {}\n", name.as_str())?
+                }
+            };
+            let status = Status::Read;
+            Ok(Decision::Refused(Refusal { status, line }))
         }
         Stop::TooLong(rule, name) => {
             let place = Place::File(name);
@@ -74,41 +77,57 @@ fn stopped(alloc: Global, stop: Stop) -> Result<Decision, AllocError>
     }
 }
 
-/// What a job does over its sources.
-fn over_sources(alloc: Global, job: &Job, sources: &[Bytes]) -> Result<Decision, AllocError>
-    requires { length sources.now ≡ length job.now.names }
-    ensures { IfOk result (λ d. LeadsTo (is_early job.now.cmd) d
-        (IsAnswerOf job.now.cmd job.now.names sources.now)) }
+/// What a job does over what was read.
+fn over_read(alloc: Global, job: &Job, read: Read) -> Result<Decision, AllocError>
+    requires as_many { length read.sources ≡ length job.now.names }
+    requires few { length read.files ≤ names_limit }
+    ensures { (given : Given) → given.sources ≡ read.sources → given.files ≡ read.files
+        → IfOk result (λ d. LeadsTo (is_early job.now.cmd) d
+        (IsAnswerOf job.now.cmd job.now.names given)) }
 {
     job.has_names();
     match job.cmd {
-        Cmd::Gen => small_header(alloc, &job.names[0], &sources[0]),
-        Cmd::Dts => left_tree(alloc, &job.names, sources),
-        Cmd::Expand => text_lines(alloc, job.names.as_slice(), sources),
+        Cmd::Gen => bound_header(alloc, &job.names, read),
+        Cmd::Check => tested(alloc, &job.names, read),
+        Cmd::Dts => left_tree(alloc, &job.names, read.sources.as_slice()),
+        Cmd::Expand => text_lines(alloc, job.names.as_slice(), read.sources.as_slice()),
     }
 }
 
-/// The header of a small source, or S6.
-fn small_header(alloc: Global, name: &Text, source: &Bytes) -> Result<Decision, AllocError>
-    ensures { IfOk result (λ d. LeadsTo false d (IsSmallAnswer name.now source.now)) }
+/// The header of the bound tree, or the first fault.
+fn bound_header(alloc: Global, names: &Vec<Text>, read: Read) -> Result<Decision, AllocError>
+    requires as_many { length read.sources ≡ length names.now.items }
+    requires few { length read.files ≤ names_limit }
+    ensures { IfOk result (λ d. LeadsTo false d (IsGenAnswer true
+        (record { names = names.now.items; sources = read.sources; files = read.files }))) }
 {
-    match read_small(alloc, source.as_slice())? {
-        Some(nodes) => Ok(Decision::Header(nodes)),
-        None => {
-            let place = Place::Byte(name.copy(alloc)?, 0);
-            let rule = Rule::S6;
-            let said = refuse(alloc, &Fault { rule, place })?;
-            Ok(Decision::Refused(said))
-        }
+    match bound_of(alloc, names, read) {
+        Ok(bound) => Ok(Decision::Header(bound)),
+        Err(End::Fault(fault)) => Ok(Decision::Refused(refuse(alloc, &fault)?)),
+        Err(End::Memory(e)) => Err(e),
     }
 }
 
-/// The tree that sources leave, or their first fault.
+/// Nothing to write where the tree can be bound, or the first fault.
+fn tested(alloc: Global, names: &Vec<Text>, read: Read) -> Result<Decision, AllocError>
+    requires as_many { length read.sources ≡ length names.now.items }
+    requires few { length read.files ≤ names_limit }
+    ensures { IfOk result (λ d. LeadsTo false d (IsGenAnswer false
+        (record { names = names.now.items; sources = read.sources; files = read.files }))) }
+{
+    match bound_of(alloc, names, read) {
+        Ok(_) => Ok(Decision::Tested),
+        Err(End::Fault(fault)) => Ok(Decision::Refused(refuse(alloc, &fault)?)),
+        Err(End::Memory(e)) => Err(e),
+    }
+}
+
+/// The tree that sources leave, or the first fault.
 fn left_tree(alloc: Global, names: &Vec<Text>, sources: &[Bytes]) -> Result<Decision, AllocError>
     requires { length sources.now ≡ length names.now.items }
     ensures { IfOk result (λ d. LeadsTo false d (IsTreeAnswer names.now.items sources.now)) }
 {
-    match tree_of(alloc, names, sources) {
+    match printable_tree(alloc, names, sources) {
         Ok(tree) => Ok(Decision::Source(tree)),
         Err(End::Fault(fault)) => Ok(Decision::Refused(refuse(alloc, &fault)?)),
         Err(End::Memory(e)) => Err(e),

@@ -1,24 +1,9 @@
-//! Laws of the small source, as contracts: reading is the relation, and a source has one tree.
+//! Laws of a run, as contracts.
 
-ghost use Rattle.std.specs.Prelude.{◌≡◌, ℕ, List, Option, Some};
-ghost use Rattle.edt_run.specs.Forest.{Forest};
-ghost use Rattle.edt_run.specs.Reading.{reading};
-ghost use Rattle.edt_run.specs.Small.{IsSmall};
+ghost use Rattle.std.specs.Prelude.{◌≡◌, Option};
 ghost use Rattle.edt_run.specs.Answer.{Answer, Given};
 ghost use Rattle.edt_run.specs.Job.{JobData};
 ghost use Rattle.edt_run.specs.Promises.{IsAnswer, EndsWithAnswer};
-
-/// The bytes that are read as a tree are a small source of that tree, and every small source is
-/// read as its tree.
-pub(crate) fn sources_are_read()
-    ensures sound { (bytes : List ℕ) (f : Forest) → reading bytes ≡ Some f → IsSmall bytes f }
-    ensures complete { (bytes : List ℕ) (f : Forest) → IsSmall bytes f → reading bytes ≡ Some f }
-{}
-
-/// A source has at most one tree.
-pub(crate) fn one_tree()
-    ensures { (bytes : List ℕ) (f g : Forest) → IsSmall bytes f → IsSmall bytes g → f ≡ g }
-{}
 
 /// A run has one answer: over the same words and what was read there is one status, one output and
 /// one line.

@@ -1,14 +1,17 @@
-//! Reads the sources of a job, in their order and within the limits on their bytes.
+//! Reads what a job names, in order and within the limits: its sources, the listings of its folders,
+//! and the binding files that these list.
 
 ghost use Rattle.std.specs.Prelude.{◌≡◌, ◌<◌, ◌≤◌, IfOk, IfErr, alloc_error, length};
-ghost use Rattle.edt_base.specs.Outside.{held_of};
-ghost use Rattle.edt_run.specs.Steps.{AreRead, AreTogether, IsReadStop, IsGroupStop};
+ghost use Rattle.edt_base.specs.Outside.{content, held_of};
+ghost use Rattle.edt_run.specs.Answer.{file_rule};
+ghost use Rattle.edt_run.specs.Reading.{AreFilesRead, AreListed, AreRead, AreTogether, IsFileStop, IsGroupStop, IsListStop, IsRead, IsReadStop, IsSourceStop};
 ghost use Rattle.edt_run.specs.declared.asked.Cmd.TheVariants as cmd;
 ghost use Rattle.edt_run.specs.declared.sources.Stop.TheVariants.{Memory};
 
 use crate::asked::{Cmd, Job};
-use edt_base::{Bytes, Files, ReadEnd, Rule, Text};
+use edt_base::{Bytes, Call, Files, ReadEnd, Rule, Text};
 use std::alloc::{AllocError, AllocFailed, Global};
+use std::marker::Model;
 
 /// How many bytes the sources of a tree have together at most.
 const SOURCE_LIMIT: u64 = 2_097_152;
@@ -19,12 +22,36 @@ const DEFS_LIMIT: u64 = 33_554_432;
 /// How many bytes a text to expand has at most.
 const TEXT_LIMIT: u64 = 1_048_576;
 
-/// Why reading the sources stopped.
+/// How many names of binding files there are at most.
+const NAMES_LIMIT: u32 = 8_192;
+
+/// How many bytes a binding file has at most.
+const FILE_LIMIT: u64 = 262_144;
+
+/// How many bytes the binding files have together at most.
+const FILES_LIMIT: u64 = 67_108_864;
+
+/// What a job reads: the bytes of its sources, and the binding files, each in order.
+#[derive(Drop)]
+pub(crate) struct Read {
+    pub(crate) sources: Vec<Bytes>,
+    pub(crate) files: Vec<(Text, Bytes)>,
+}
+
+impl Model for Read {
+    ghost use Rattle.edt_run.specs.Reading.{ReadData};
+
+    ghost Value = { ReadData };
+
+    ghost view = { λ r. record { sources = r.sources.items; files = r.files.items } };
+}
+
+/// Why reading stopped.
 #[derive(Drop)]
 pub(crate) enum Stop {
-    /// The source of this name couldn't be read.
-    Failed(Text),
-    /// With the source of this name there are more bytes than this limit.
+    /// This call failed.
+    Failed(Call),
+    /// With the file or folder of this name there is more than this limit.
     TooLong(Rule, Text),
     /// Memory was wanted.
     Memory(AllocError),
@@ -46,26 +73,38 @@ impl<T: Drop> From<AllocFailed<T>> for Stop {
     }
 }
 
-/// The bytes of a job's sources, or why reading them stopped; none is read after that.
-pub(crate) fn read_sources<F: Files>(
-    alloc: Global,
-    job: &Job,
-    files: &mut F,
-) -> Result<Vec<Bytes>, Stop>
-    ensures read { IfOk result (λ v. AreRead (held_of (F.seen files.old)) job.now.cmd job.now.names v.items) }
-    ensures stopped { IfErr result
-        (λ stop. IsReadStop (F.seen files.old) (F.seen files.new) job.now.cmd job.now.names stop) }
+/// What a job names, or why reading it stopped; nothing is read after that.
+pub(crate) fn read_job<F: Files>(alloc: Global, job: &Job, files: &mut F) -> Result<Read, Stop>
+    ensures read { IfOk result (IsRead (held_of (F.seen files.old)) job.now) }
+    ensures stopped { IfErr result (IsReadStop (F.seen files.old) (F.seen files.new) job.now) }
     ensures held { held_of (F.seen files.new) ≡ held_of (F.seen files.old) }
     ensures count { (F.seen files.old).faults ≤ (F.seen files.new).faults }
 {
-    let names = job.names.as_slice();
-    match job.cmd {
+    job.has_names();
+    let sources = read_sources(alloc, job.cmd, job.names.as_slice(), files)?;
+    let names = list_folders(alloc, job.dirs.as_slice(), files)?;
+    let files = read_files(alloc, names, files)?;
+    Ok(Read { sources, files })
+}
+
+/// The bytes of the sources of a command, or why reading them stopped.
+fn read_sources<F: Files>(
+    alloc: Global,
+    cmd: Cmd,
+    names: &[Text],
+    files: &mut F,
+) -> Result<Vec<Bytes>, Stop>
+    requires { 0 < length names.now }
+    ensures read { IfOk result (λ v. AreRead (held_of (F.seen files.old)) cmd names.now v.items) }
+    ensures stopped { IfErr result (IsSourceStop (F.seen files.old) (F.seen files.new) cmd names.now) }
+    ensures held { held_of (F.seen files.new) ≡ held_of (F.seen files.old) }
+    ensures count { (F.seen files.old).faults ≤ (F.seen files.new).faults }
+{
+    match cmd {
         Cmd::Gen => read_together(alloc, names, SOURCE_LIMIT, Rule::L1, files),
+        Cmd::Check => read_together(alloc, names, SOURCE_LIMIT, Rule::L1, files),
         Cmd::Dts => read_together(alloc, names, SOURCE_LIMIT, Rule::L1, files),
-        Cmd::Expand => {
-            job.has_names();
-            read_expansion(alloc, names, files)
-        }
+        Cmd::Expand => read_expansion(alloc, names, files),
     }
 }
 
@@ -77,8 +116,7 @@ fn read_expansion<F: Files>(
 ) -> Result<Vec<Bytes>, Stop>
     requires { 0 < length names.now }
     ensures read { IfOk result (λ v. AreRead (held_of (F.seen files.old)) cmd.Expand names.now v.items) }
-    ensures stopped { IfErr result
-        (λ stop. IsReadStop (F.seen files.old) (F.seen files.new) cmd.Expand names.now stop) }
+    ensures stopped { IfErr result (IsSourceStop (F.seen files.old) (F.seen files.new) cmd.Expand names.now) }
     ensures held { held_of (F.seen files.new) ≡ held_of (F.seen files.old) }
     ensures count { (F.seen files.old).faults ≤ (F.seen files.new).faults }
 {
@@ -97,9 +135,8 @@ fn read_together<F: Files>(
     limit: Rule,
     files: &mut F,
 ) -> Result<Vec<Bytes>, Stop>
-    ensures read { IfOk result (λ v. AreTogether (held_of (F.seen files.old)) most names.now v.items) }
-    ensures stopped { IfErr result
-        (λ stop. IsGroupStop (F.seen files.old) (F.seen files.new) most limit names.now stop) }
+    ensures read { IfOk result (λ v. AreTogether content (held_of (F.seen files.old)) most names.now v.items) }
+    ensures stopped { IfErr result (IsGroupStop (F.seen files.old) (F.seen files.new) most limit names.now) }
     ensures held { held_of (F.seen files.new) ≡ held_of (F.seen files.old) }
     ensures count { (F.seen files.old).faults ≤ (F.seen files.new).faults }
 {
@@ -111,10 +148,76 @@ fn read_together<F: Files>(
                 left -= source.as_slice().len() as u64;
                 sources.push(source)?;
             }
-            Err(ReadEnd::Failed) => return Err(Stop::Failed(name.copy(alloc)?)),
+            Err(ReadEnd::Failed) => return Err(Stop::Failed(Call::Read(name.copy(alloc)?))),
             Err(ReadEnd::TooBig) => return Err(Stop::TooLong(limit, name.copy(alloc)?)),
             Err(ReadEnd::Memory(e)) => return Err(Stop::Memory(e)),
         }
     }
     Ok(sources)
+}
+
+/// The names of the binding files that the folders list, a folder after the other, or why listing
+/// them stopped.
+fn list_folders<F: Files>(
+    alloc: Global,
+    dirs: &[Text],
+    files: &mut F,
+) -> Result<Vec<Text>, Stop>
+    ensures listed { IfOk result (λ v. AreListed (held_of (F.seen files.old)) dirs.now v.items) }
+    ensures stopped { IfErr result (IsListStop (F.seen files.old) (F.seen files.new) dirs.now) }
+    ensures held { held_of (F.seen files.new) ≡ held_of (F.seen files.old) }
+    ensures count { (F.seen files.old).faults ≤ (F.seen files.new).faults }
+{
+    let mut names = Vec::new(alloc);
+    let mut left = NAMES_LIMIT;
+    for dir in dirs {
+        match files.list(alloc, dir, left) {
+            Ok(mut more) => {
+                left -= more.len() as u32;
+                names.append(&mut more)?;
+            }
+            Err(ReadEnd::Failed) => return Err(Stop::Failed(Call::List(dir.copy(alloc)?))),
+            Err(ReadEnd::TooBig) => return Err(Stop::TooLong(Rule::L2, dir.copy(alloc)?)),
+            Err(ReadEnd::Memory(e)) => return Err(Stop::Memory(e)),
+        }
+    }
+    Ok(names)
+}
+
+/// The binding files of these names, or why reading them stopped.
+fn read_files<F: Files>(
+    alloc: Global,
+    names: Vec<Text>,
+    files: &mut F,
+) -> Result<Vec<(Text, Bytes)>, Stop>
+    ensures read { IfOk result (λ v. AreFilesRead (held_of (F.seen files.old)) names.items v.items) }
+    ensures stopped { IfErr result (IsFileStop (F.seen files.old) (F.seen files.new) names.items) }
+    ensures held { held_of (F.seen files.new) ≡ held_of (F.seen files.old) }
+    ensures count { (F.seen files.old).faults ≤ (F.seen files.new).faults }
+{
+    let mut read = Vec::with_capacity(alloc, names.len())?;
+    let mut left = FILES_LIMIT;
+    for name in names {
+        match files.read(alloc, &name, left.min(FILE_LIMIT)) {
+            Ok(bytes) => {
+                left -= bytes.as_slice().len() as u64;
+                read.push((name, bytes))?;
+            }
+            Err(ReadEnd::Failed) => return Err(Stop::Failed(Call::Read(name))),
+            Err(ReadEnd::TooBig) => return Err(Stop::TooLong(file_rule(left), name)),
+            Err(ReadEnd::Memory(e)) => return Err(Stop::Memory(e)),
+        }
+    }
+    Ok(read)
+}
+
+/// The limit that a binding file passes, where so many bytes are left for all that come.
+fn file_rule(left: u64) -> Rule
+    ensures { result ≡ file_rule left }
+{
+    if left < FILE_LIMIT {
+        Rule::L4
+    } else {
+        Rule::L3
+    }
 }

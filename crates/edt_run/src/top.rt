@@ -5,10 +5,10 @@ ghost use Rattle.edt_run.specs.Steps.{Ran, IsSaid};
 
 use crate::decision::{Decision, decide};
 use crate::expanding::{Ended, write_output};
-use crate::header::emit;
 use crate::words::job;
 use dts_print::print;
 use edt_base::{Files, Sink, Words, write_text};
+use head_write::emit;
 use std::alloc::Global;
 
 /// How a run ended. As a number it is the exit status of the program.
@@ -77,7 +77,8 @@ fn carry_out<F: Files, O: Sink, E: Sink>(
                     Ended::Failed => say(note, Status::Write, "edt: write\n"),
                 }
             }
-            Ok(Decision::Header(nodes)) => match emit(nodes.as_slice(), out) {
+            Ok(Decision::Tested) => say(note, Status::Done, ""),
+            Ok(Decision::Header(bound)) => match emit(&bound, out) {
                 Ok(()) => say(note, Status::Done, ""),
                 Err(_) => say(note, Status::Write, "edt: write\n"),
             },
@@ -85,12 +86,14 @@ fn carry_out<F: Files, O: Sink, E: Sink>(
     }
 }
 
-/// Does all that the program does: for the words `gen NAME` it reads the source of that name and
-/// writes the header of its nodes to `out`, and for `dts SRC..` it reads these sources, the base and
-/// its overlays, and writes the tree that they leave as one source. For `expand [DEFS..] TEXT` it
-/// reads the definitions of DEFS, and writes the lines of TEXT expanded over them, one after another.
-/// `-` names standard input, at most once. `words` are the arguments after the program's name, `note` is where a refusal is told,
-/// in one line, and the status is how it ended.
+/// Does all that the program does. For `gen [--bindings DIRS] SRC..` it reads the sources, the base
+/// and its overlays, and the binding files below the folders of DIRS, which colons join, and writes
+/// the header of the bound tree to `out` exactly where no rule is broken; `check` with the same words
+/// tests it and writes nothing. For `dts SRC..` it writes the tree that the sources leave as one
+/// source. For `expand [DEFS..] TEXT` it reads the definitions of DEFS, and writes the lines of TEXT
+/// expanded over them, one after another. `-` names standard input, at most once. `words` are the
+/// arguments after the program's name, `note` is where a refusal is told, in one line, and the status
+/// is how it ended.
 ///
 /// The one clause is the promise of the whole program: when each status comes and why, what the
 /// output then gained, and what the note says (`KeepsPromises`, each sentence a field of its own).

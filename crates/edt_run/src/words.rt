@@ -1,17 +1,21 @@
 //! The words of a command line, read as a job.
 
-ghost use Rattle.std.specs.Prelude.{◌≡◌, ◌<◌, IfOk, OnOk, length, take};
-ghost use Rattle.std.specs.List.{count_by, list_all};
-ghost use Rattle.edt_run.specs.Job.{job_of, job_for, cmd_of, row_of, fits, takes, has_input_once, is_name, is_standard_input};
+ghost use Rattle.std.specs.Prelude.{◌≡◌, IfOk, length, map, option_map, take};
+ghost use Rattle.std.specs.List.{count_by, list_all, slice_split};
+ghost use Rattle.edt_run.specs.Job.{are_folders, begins_with_dash, cmd_of, fits, folders, folders_of, has_input_once, is_bindings, is_folder, is_name, is_standard_input, job_for, job_of, job_over, may_stand, parted, row_of, takes};
 
 use crate::asked::{Cmd, Job};
 use edt_base::{Text, Words};
 use std::alloc::{AllocError, Global};
 use std::marker::Model;
 
-/// How many names stand after a command.
+/// How many folders of bindings there are at most.
+const MOST_FOLDERS: usize = 32;
+
+/// What stands after a command: whether the option `--bindings` may, and how many names.
 #[derive(Clone, Copy)]
 struct Row {
+    bindings: bool,
     least: usize,
     most: usize,
 }
@@ -21,45 +25,88 @@ impl Model for Row {
 
     ghost Value = { RowData };
 
-    ghost view = { λ r. record { least = r.least; most = r.most } };
+    ghost view = { λ r. record { bindings = r.bindings; least = r.least; most = r.most } };
 
-    ghost inverse = { λ r. record { least = r.least; most = r.most } };
+    ghost inverse = { λ r. record { bindings = r.bindings; least = r.least; most = r.most } };
 }
 
-/// What the words after the program's name ask for: a command, then names in order. None exactly
-/// where they are no job of the table of commands. The one error is want of memory.
+/// The words after a command: the word behind the option `--bindings`, where that stands, and the
+/// names.
+#[derive(Drop)]
+struct Parted {
+    dirs: Option<Text>,
+    names: Vec<Text>,
+}
+
+impl Model for Parted {
+    ghost use Rattle.edt_run.specs.Job.{PartedData};
+
+    ghost Value = { PartedData };
+
+    ghost view = { λ p. record { dirs = p.dirs; names = p.names.items } };
+}
+
+/// What the words after the program's name ask for: a command, then its options and names in any
+/// order. None exactly where they are no job of the table of commands. The one error is want of
+/// memory.
 pub fn job(alloc: Global, words: &Words) -> Result<Option<Job>, AllocError>
     ensures { IfOk result (λ j. j ≡ job_of words.now) }
 {
     match words.list().as_slice() {
         [] => Ok(None),
-        [command, names @ ..] => match cmd_of(command.as_str()) {
-            Some(cmd) => job_for(alloc, cmd, names),
+        [command, words @ ..] => match cmd_of(command.as_str()) {
+            Some(cmd) => job_for(alloc, cmd, words),
             None => Ok(None),
         },
     }
 }
 
 /// The job of a command with the words after it.
-fn job_for(alloc: Global, cmd: Cmd, names: &[Text]) -> Result<Option<Job>, AllocError>
-    ensures { IfOk result (λ j. j ≡ job_for cmd names.now) }
+fn job_for(alloc: Global, cmd: Cmd, words: &[Text]) -> Result<Option<Job>, AllocError>
+    ensures { IfOk result (λ j. j ≡ job_for cmd words.now) }
 {
-    if !fits(&row_of(cmd), names) {
-        return Ok(None);
+    match parted(alloc, words)? {
+        Some(parted) => job_over(alloc, cmd, parted),
+        None => Ok(None),
     }
-    let names = copied(alloc, names)?;
-    Ok(Some(Job { cmd, names }))
 }
 
-/// Copies of the names.
-fn copied(alloc: Global, names: &[Text]) -> Result<Vec<Text>, AllocError>
-    ensures { IfOk result (λ v. v.items ≡ names.now) }
+/// The job of a command with options and names.
+fn job_over(alloc: Global, cmd: Cmd, parted: Parted) -> Result<Option<Job>, AllocError>
+    ensures { IfOk result (λ j. j ≡ job_over cmd parted) }
 {
-    let mut copies = Vec::new(alloc);
-    for name in names {
-        copies.push(name.copy(alloc)?)?;
+    if !fits(alloc, &row_of(cmd), &parted)? {
+        return Ok(None);
     }
-    Ok(copies)
+    let dirs = folders_of(alloc, parted.dirs.as_ref())?;
+    let names = parted.names;
+    Ok(Some(Job { cmd, dirs, names }))
+}
+
+/// Parts words into an option and names. None where the option stands twice, or without a word
+/// behind it.
+fn parted(alloc: Global, words: &[Text]) -> Result<Option<Parted>, AllocError>
+    ensures { IfOk result (λ p. p ≡ parted words.now) }
+{
+    let mut dirs = None;
+    let mut names = Vec::new(alloc);
+    let mut rest = words;
+    while let Some((word, after)) = rest.split_first() {
+        rest = after;
+        if !is_bindings(word) {
+            names.push(word.copy(alloc)?)?;
+            continue;
+        }
+        let Some((value, after)) = rest.split_first() else {
+            return Ok(None);
+        };
+        if dirs.is_some() {
+            return Ok(None);
+        }
+        dirs = Some(value.copy(alloc)?);
+        rest = after;
+    }
+    Ok(Some(Parted { dirs, names }))
 }
 
 /// The command of a word.
@@ -69,28 +116,38 @@ fn cmd_of(word: &str) -> Option<Cmd>
 {
     match word {
         "gen" => Some(Cmd::Gen),
+        "check" => Some(Cmd::Check),
         "dts" => Some(Cmd::Dts),
         "expand" => Some(Cmd::Expand),
         _ => None,
     }
 }
 
-/// What stands after a command.
+/// What may stand after a command.
 fn row_of(cmd: Cmd) -> Row
     ensures { result ≡ row_of cmd }
 {
-    match cmd {
-        Cmd::Gen => Row { least: 1, most: 1 },
-        Cmd::Dts => Row { least: 1, most: 32 },
-        Cmd::Expand => Row { least: 1, most: 33 },
+    let (bindings, most) = match cmd {
+        Cmd::Gen | Cmd::Check => (true, 32),
+        Cmd::Dts => (false, 32),
+        Cmd::Expand => (false, 33),
+    };
+    Row {
+        bindings,
+        least: 1,
+        most,
     }
 }
 
 /// Whether the words after a command are those that its row tells.
-fn fits(row: &Row, names: &[Text]) -> bool
-    ensures { result ≡ fits row.now names.now }
+fn fits(alloc: Global, row: &Row, parted: &Parted) -> Result<bool, AllocError>
+    ensures { IfOk result (λ b. b ≡ fits row.now parted.now) }
 {
-    row.takes(names.len()) && are_names(names) && has_input_once(names)
+    let names = parted.names.as_slice();
+    if !(row.takes(names.len()) && are_names(names) && has_input_once(names)) {
+        return Ok(false);
+    }
+    may_stand(alloc, row.bindings, parted.dirs.as_ref())
 }
 
 impl Row {
@@ -100,6 +157,55 @@ impl Row {
     {
         self.least <= count && count <= self.most
     }
+}
+
+/// Whether these folders may stand where a command takes bindings or doesn't.
+fn may_stand(alloc: Global, takes: bool, dirs: Option<&Text>) -> Result<bool, AllocError>
+    ensures { IfOk result (λ b. b ≡ may_stand takes (option_map (λ t. t.now) dirs.entry)) }
+{
+    match dirs {
+        None => Ok(true),
+        Some(word) => Ok(takes && are_folders(alloc, word)?),
+    }
+}
+
+/// Whether a word names folders.
+fn are_folders(alloc: Global, word: &Text) -> Result<bool, AllocError>
+    ensures { IfOk result (λ b. b ≡ are_folders word.now) }
+{
+    if begins_with_dash(word) {
+        return Ok(false);
+    }
+    let folders = folders(alloc, word.as_str())?;
+    Ok(folders.len() <= MOST_FOLDERS && are_named(folders.as_slice()))
+}
+
+/// Whether no folder's name is empty.
+fn are_named(folders: &[&str]) -> bool
+    ensures { result ≡ list_all is_folder (map (λ b. b.now) folders.now) }
+{
+    folders.iter().all(|folder| !folder.is_empty())
+}
+
+/// The names that a word joins by colons.
+fn folders<'a>(alloc: Global, word: &'a str) -> Result<Vec<&'a str>, AllocError>
+    ensures { IfOk result (λ v. map (λ b. b.now) v.items ≡ folders word.now) }
+{
+    word.split(':').collect(alloc)
+}
+
+/// The folders of the bindings; none without the option.
+fn folders_of(alloc: Global, dirs: Option<&Text>) -> Result<Vec<Text>, AllocError>
+    ensures { IfOk result (λ v. v.items ≡ folders_of (option_map (λ t. t.now) dirs.entry)) }
+{
+    let mut all = Vec::new(alloc);
+    let Some(word) = dirs else {
+        return Ok(all);
+    };
+    for folder in folders(alloc, word.as_str())?.as_slice() {
+        all.push(Text::new(String::from_str(alloc, *folder)?))?;
+    }
+    Ok(all)
 }
 
 /// Whether each word can name a source.
@@ -134,5 +240,19 @@ fn is_standard_input(word: &Text) -> bool
 fn is_name(word: &Text) -> bool
     ensures { result ≡ is_name word.now }
 {
-    is_standard_input(word) || !word.as_str().as_bytes().starts_with(b"-")
+    is_standard_input(word) || !begins_with_dash(word)
+}
+
+/// Whether a word begins as options do.
+fn begins_with_dash(word: &Text) -> bool
+    ensures { result ≡ begins_with_dash word.now }
+{
+    word.as_str().as_bytes().starts_with(b"-")
+}
+
+/// Whether a word is the option that names folders of bindings.
+fn is_bindings(word: &Text) -> bool
+    ensures { result ≡ is_bindings word.now }
+{
+    word.as_str() == "--bindings"
 }
