@@ -1,0 +1,48 @@
+//! What `gen` and `check` do over their sources and binding files: take the tree that the sources
+//! leave, load its bindings, and bind it.
+
+ghost use Rattle.std.specs.Prelude.{◌≡◌, ◌≤◌, IfOk, length, map};
+ghost use Rattle.edt_run.specs.Answer.{names_limit};
+ghost use Rattle.edt_run.specs.GenAnswer.{compats_of};
+ghost use Rattle.edt_run.specs.GenSteps.{IsBoundOver};
+
+use crate::sources::Read;
+use crate::tree_job::{at_root, tree_of};
+use bind_merge::Library;
+use edt_base::{Bound, End, Rule, Text, Tree};
+use edt_bound::bind;
+use head_write::measure;
+use std::alloc::{AllocError, Global};
+
+/// How many bytes a header has at most.
+const HEADER_LIMIT: u64 = 16_777_216;
+
+/// The bound tree of what was read, whose header is within the limit; else the first fault.
+pub(crate) fn bound_of(alloc: Global, names: &Vec<Text>, read: Read) -> Result<Bound, End>
+    requires as_many { length read.sources ≡ length names.now.items }
+    requires few { length read.files ≤ names_limit }
+    ensures { IsBoundOver (record { names = names.now.items; sources = read.sources; files = read.files }) result }
+{
+    let tree = tree_of(alloc, names, read.sources.as_slice())?;
+    let compats = compats_of(alloc, &tree)?;
+    let mut library = Library::new(read.files);
+    library.load(alloc, &compats)?;
+    let bound = bind(alloc, tree, &library)?;
+    if measure(&bound) > HEADER_LIMIT {
+        return Err(End::Fault(at_root(alloc, Rule::L9)?));
+    }
+    Ok(bound)
+}
+
+/// The compatible strings of a tree's nodes, as often as they are listed.
+fn compats_of(alloc: Global, tree: &Tree) -> Result<Vec<Text>, AllocError>
+    ensures { IfOk result (λ v. v.items ≡ compats_of tree.now) }
+{
+    let mut compats = Vec::new(alloc);
+    for node in tree.nodes() {
+        for compat in &node.compats {
+            compats.push(compat.copy(alloc)?)?;
+        }
+    }
+    Ok(compats)
+}
