@@ -1,5 +1,8 @@
 pub mod Addresses
+pub mod Binding
 pub mod BoundTree
+pub mod Entering
+pub mod Loading
 pub mod Ordering
 pub mod Phases
 pub mod Requiring

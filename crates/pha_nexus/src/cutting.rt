@@ -10,11 +10,13 @@ use edt_base::{NodeId, Rule, Stop, Tree};
 use std::alloc::Global;
 use std::marker::Model;
 
-/// A specifier at a node.
+/// A specifier at a node (Devicetree Specification v0.4, 2.5).
 #[derive(Drop)]
-pub(crate) struct Specifier {
-    pub(crate) node: NodeId,
-    pub(crate) cells: Vec<u32>,
+pub struct Specifier {
+    /// The node: the controller that it is for, or a nexus on its way.
+    pub node: NodeId,
+    /// The cells.
+    pub cells: Vec<u32>,
 }
 
 impl Model for Specifier {
@@ -28,7 +30,7 @@ impl Model for Specifier {
 /// The entry of this first cell, and the cells that are left behind it; None for an unspecified
 /// entry. The fault is V20 where no node has the phandle, V21 where the node doesn't say how many
 /// cells its specifiers have, V22 where these aren't there.
-pub(crate) fn first_entry<'c>(
+pub fn first_entry<'c>(
     alloc: Global,
     t: &Tree,
     space: &Space<'_>,

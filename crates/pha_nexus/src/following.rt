@@ -68,8 +68,9 @@ fn follow_from(
     go_along(alloc, t, &space, start, spec)
 }
 
-/// Where a specifier ends, and as what; or the first rule that is broken on its way.
-pub(crate) fn go_along(
+/// Where a specifier ends, and as what; or the first rule that is broken on its way. It is what
+/// `follow` tells, for callers that follow many specifiers of a space, or tell the fault elsewhere.
+pub fn go_along(
     alloc: Global,
     t: &Tree,
     space: &Space<'_>,

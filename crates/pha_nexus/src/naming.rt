@@ -64,8 +64,32 @@ fn ended(
         Ok(end) => end,
         Err(stop) => return Err(stop),
     };
-    let names = cell_names(alloc, t, lib, m, space, node)?;
-    with_names(alloc, Specifier { node, cells }, name, names)
+    named(alloc, t, lib, m, space, name, Specifier { node, cells })
+}
+
+/// The entry of this name of a specifier that ends at its node: with the names that the node's
+/// binding gives to the cells of this space. The fault is V23 where the node has no binding, V24
+/// where the binding doesn't name as many cells as the specifier has. These must be the matches of
+/// this tree and library.
+pub fn named(
+    alloc: Global,
+    t: &Tree,
+    lib: &Library,
+    m: &Matches,
+    space: &Space<'_>,
+    name: Option<Text>,
+    end: Specifier,
+) -> Result<Entry, Stop>
+    requires there { end.node < length t.now.nodes }
+    requires matches { IsMatches t.now.nodes lib.now m.now }
+    ensures entry { IfOk result (λ e. with_names end name
+        (cell_names t.now.nodes lib.now space.now end.node) ≡ Ok e) }
+    ensures controller { IfOk result (λ e. e.controller ≡ end.node) }
+    ensures stop { IfErr result (IsStop (with_names end name
+        (cell_names t.now.nodes lib.now space.now end.node))) }
+{
+    let names = cell_names(alloc, t, lib, m, space, end.node)?;
+    with_names(alloc, end, name, names)
 }
 
 // The names that a node's binding gives to the cells of its specifiers; None where it has no
@@ -107,6 +131,7 @@ fn with_names(
 ) -> Result<Entry, Stop>
     ensures entry { IfOk result
         (λ e. with_names end name (option_map (λ v. v.now) names.entry) ≡ Ok e) }
+    ensures controller { IfOk result (λ e. e.controller ≡ end.node) }
     ensures stop { IfErr result
         (IsStop (with_names end name (option_map (λ v. v.now) names.entry))) }
 {

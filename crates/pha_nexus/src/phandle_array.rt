@@ -136,8 +136,9 @@ fn entries_in(
     }
 }
 
-// Whether there is a rest of 1 to 3 bytes behind the cells of a value.
-fn has_rest(value: &PropVal, cells: &[u32]) -> bool
+/// Whether there is a rest of 1 to 3 bytes behind the cells of a value, which must be these. Takes no
+/// memory.
+pub fn has_rest(value: &PropVal, cells: &[u32]) -> bool
     requires { cells.now ≡ value_cells value.now }
     ensures { result ≡ has_rest (length (bytes_of value.now)) }
 {

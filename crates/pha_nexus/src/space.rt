@@ -10,9 +10,9 @@ use std::alloc::{AllocError, Global};
 use std::marker::Model;
 
 /// A space of specifiers, as `gpio`, with the names of its properties (Devicetree Specification
-/// v0.4, 2.5.1). Contracts see the bytes of its own name.
+/// v0.4, 2.5.1), which are spelled once for many look-ups. Contracts see the bytes of its own name.
 #[derive(Drop)]
-pub(crate) struct Space<'a> {
+pub struct Space<'a> {
     pub(crate) name: &'a Text,
     cells: String,
     map: String,
@@ -36,8 +36,8 @@ impl<'a> Model for Space<'a> {
 }
 
 impl<'a> Space<'a> {
-    /// The space of this name.
-    pub(crate) fn new(alloc: Global, name: &'a Text) -> Result<Space<'a>, AllocError>
+    /// The space of this name. The one error is want of memory.
+    pub fn new(alloc: Global, name: &'a Text) -> Result<Space<'a>, AllocError>
         ensures { IfOk result (λ s. s ≡ name.now) }
     {
         let space = name;
@@ -51,8 +51,8 @@ impl<'a> Space<'a> {
         })
     }
 
-    /// The map of a node; None where it is no nexus of this space.
-    pub(crate) fn map<'t>(&self, t: &'t Tree, id: NodeId) -> Option<&'t PropVal>
+    /// The map of a node; None where it is no nexus of this space. Takes no memory.
+    pub fn map<'t>(&self, t: &'t Tree, id: NodeId) -> Option<&'t PropVal>
         requires { id < length t.now.nodes }
         ensures { option_map (λ v. v.now) result ≡ map_at t.now.nodes self.now id }
     {
@@ -83,17 +83,17 @@ impl<'a> Space<'a> {
     {
         width_by(
             self.is_interrupt(),
-            count(t, id, "#address-cells"),
-            count(t, id, self.cells.as_str()),
+            cell_count(t, id, "#address-cells"),
+            cell_count(t, id, self.cells.as_str()),
         )
     }
 
-    /// How many cells a node's specifiers have; None where it doesn't say.
-    pub(crate) fn width(&self, t: &Tree, id: NodeId) -> Option<u32>
+    /// How many cells a node's specifiers have; None where it doesn't say. Takes no memory.
+    pub fn width(&self, t: &Tree, id: NodeId) -> Option<u32>
         requires { id < length t.now.nodes }
         ensures { result ≡ count_at t.now.nodes id (cells_name self.now) }
     {
-        count(t, id, self.cells.as_str())
+        cell_count(t, id, self.cells.as_str())
     }
 
     fn is_interrupt(&self) -> bool
@@ -103,8 +103,9 @@ impl<'a> Space<'a> {
     }
 }
 
-// The number that a property gives.
-fn count(t: &Tree, id: NodeId, name: &str) -> Option<u32>
+/// The number of cells that a node's property of this name gives, as `#address-cells`; None where
+/// it isn't there or has another number of bytes than 4. Takes no memory.
+pub fn cell_count(t: &Tree, id: NodeId, name: &str) -> Option<u32>
     requires { id < length t.now.nodes }
     ensures { result ≡ count_at t.now.nodes id name.now }
 {

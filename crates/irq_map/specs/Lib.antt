@@ -1,0 +1,4 @@
+pub mod Gic
+pub mod Interrupts
+pub mod Unit
+pub mod Written
