@@ -1,9 +1,7 @@
 -- What `gen SRC..` and `check SRC..` answer over the bytes of their sources and binding files: the header exactly where
 -- the bound tree is valid, else the first rule that is broken and its place.
 use Rattle.std.specs.Prelude.{◌≡◌, ◌⊎◌, ℕ, Bool, List, [], length, nat_lt, if◌then◌else◌}
-use Rattle.std.specs.List.{flat_map}
 use Rattle.edt_base.specs.BoundData.{BoundData}
-use Rattle.edt_base.specs.NodeData.{NodeData}
 use Rattle.edt_base.specs.TreeData.{TreeData}
 use Rattle.edt_base.specs.declared.fault.Fault.{Fault}
 use Rattle.edt_base.specs.declared.fault.Rule.TheVariants as rule
@@ -11,7 +9,8 @@ use Rattle.bind_merge.specs.Listing.{File}
 use Rattle.bind_merge.specs.LibraryData.{BindingData, LibData}
 use Rattle.bind_merge.specs.Loading as loading
 use Rattle.edt_bound.specs.BoundTree as binding
-use Rattle.edt_bound.specs.Asking.{asked_of}
+use Rattle.edt_bound.specs.Binding.{asked_of}
+use Rattle.edt_bound.specs.Loading.{compats_of}
 use Rattle.head_write.specs.Header.{header_text}
 use Rattle.edt_run.specs.Answer.{Answer, at_root, done, refused}
 use Rattle.edt_run.specs.TreeAnswer.{BreaksTree, Leaves}
@@ -24,16 +23,12 @@ pub record Inputs : Type 0 where
 
 -- ---- the bindings of the tree
 
--- the compatible strings of a tree's nodes
-abbrev pub compats_of : TreeData → List (List ℕ)
-compats_of t = flat_map (λ (n : NodeData). n.compats) t.nodes
-
 abbrev pub library_of : List File → List BindingData → LibData
 library_of files bindings = record { files = files; bindings = bindings }
 
 -- the files' bindings of this tree's strings are loaded without fault
 abbrev pub Loads : Inputs → TreeData → LibData → Type 0
-Loads i t lib = (bindings : List BindingData) × (loading.IsLoaded i.files (compats_of t) bindings)
+Loads i t lib = (bindings : List BindingData) × (loading.IsLoaded i.files (compats_of t.nodes) bindings)
     × (lib ≡ library_of i.files bindings)
 
 -- ---- the bound tree
@@ -49,7 +44,7 @@ pub record IsValid (i : Inputs) (b : BoundData) : Type 0 where
 -- the first rule that is broken, at its place: in the sources, in the binding files, or in binding the tree
 pub data IsFirst (i : Inputs) (f : Fault) : Type 0 where
   in_tree : BreaksTree i.names i.sources f → IsFirst i f
-  in_bindings : (t : TreeData) → Leaves i.names i.sources t → loading.IsFirstFault i.files (compats_of t) f → IsFirst i f
+  in_bindings : (t : TreeData) → Leaves i.names i.sources t → loading.IsFirstFault i.files (compats_of t.nodes) f → IsFirst i f
   in_bound : (t : TreeData) (lib : LibData) → Leaves i.names i.sources t → Loads i t lib
       → binding.IsFirstFault t lib (asked_of t lib) f → IsFirst i f
 

@@ -2,8 +2,8 @@
 //! leave, load its bindings, and bind it.
 
 ghost use Rattle.std.specs.Prelude.{◌≡◌, ◌≤◌, IfOk, length, map};
+ghost use Rattle.edt_bound.specs.Loading.{compats_of};
 ghost use Rattle.edt_run.specs.Answer.{names_limit};
-ghost use Rattle.edt_run.specs.GenAnswer.{compats_of};
 ghost use Rattle.edt_run.specs.GenSteps.{IsBoundOver};
 
 use crate::sources::Read;
@@ -36,7 +36,7 @@ pub(crate) fn bound_of(alloc: Global, names: &Vec<Text>, read: Read) -> Result<B
 
 /// The compatible strings of a tree's nodes, as often as they are listed.
 fn compats_of(alloc: Global, tree: &Tree) -> Result<Vec<Text>, AllocError>
-    ensures { IfOk result (λ v. v.items ≡ compats_of tree.now) }
+    ensures { IfOk result (λ v. v.items ≡ compats_of tree.now.nodes) }
 {
     let mut compats = Vec::new(alloc);
     for node in tree.nodes() {
