@@ -1,58 +1,57 @@
 -- Each job has one answer, which tells of the words and the files, and a refusal writes nothing.
-use Rattle.std.proofs.Common.{◌≡◌, ◌∙◌, if◌then◌else◌, Result, Ok, Err, codes, length, nat_lt, ℕ, Bool, true, false, List, [], ◌∷◌, Option, Some, None, MatchOption, IsTrue, refl, sym, ap, subst, inl, inr}
+use Rattle.std.proofs.Common.{◌≡◌, ◌∙◌, if◌then◌else◌, length, map, nat_lt, ℕ, Bool, true, false, List, [], ◌∷◌, Option, Some, None, MatchOption, IsTrue, refl, sym, ap, subst, inl, inr}
 use Rattle.edt_base.specs.declared.fault.Fault.{Fault}
 use Rattle.edt_base.specs.declared.fault.Rule.TheVariants as rule
-use Rattle.edt_base.specs.declared.fault.Place.TheVariants as place
 use Rattle.edt_base.specs.FaultText.{is_limit}
 use Rattle.edt_base.specs.Outside.{FilesSeen, held_of}
 use Rattle.edt_run.specs.declared.asked.Cmd.{Cmd}
 use Rattle.edt_run.specs.declared.asked.Cmd.TheVariants as cmd
 use Rattle.edt_run.specs.declared.top.Status.TheVariants as status
-use Rattle.edt_run.specs.Answer.{Answer, Given, IsGiven, done, refusal, refused, refused_behind, fault_line, first_past}
+use Rattle.edt_run.specs.Answer.{Answer, AreFiles, Given, IsGiven, all_listed, at_root, done, refusal, refused, refused_behind, fault_line, limit_passed, with_content}
 use Rattle.edt_run.specs.ExpandAnswer.{Breach, breach_fault, ended, IsAnswerOver, nothing_known}
 use Rattle.c_macro.specs.Directive.{Known}
-use Rattle.edt_run.specs.Header.{header}
+use Rattle.edt_run.specs.GenAnswer.{Inputs, IsGenAnswer, header_limit, over_header}
 use Rattle.edt_run.specs.Job.{JobData}
-use Rattle.edt_run.specs.Promises.{IsAnswer, IsAnswerOf, IsAnswerFrom, is_early, is_plain, writes_early}
-use Rattle.edt_run.specs.SmallAnswer.{IsSmallAnswer}
+use Rattle.edt_run.specs.Promises.{IsAnswer, IsAnswerOf, IsAnswerFrom, inputs_of, is_early, is_plain, writes_early}
 use Rattle.edt_run.specs.TreeAnswer.{IsTreeAnswer, over_tree, print_limit}
 use Rattle.edt_base.specs.TreeData.{TreeData}
-use Rattle.dts_tree.specs.Outcome.{outcome}
 use Rattle.dts_print.specs.Printed.{printed}
+use Rattle.head_write.specs.Header.{header_text}
 use Rattle.edt_run.proofs.ExpandLaws.{over_one}
 use Rattle.edt_run.proofs.TreeAnswerLaws.{one_tree_answer}
 use Rattle.dts_parse.proofs.Whole.{one_script}
-use Rattle.edt_run.proofs.SmallLaws.{one_tree}
+use Rattle.edt_run.proofs.GenLaws.{one_gen_answer}
 
 -- ---- one answer
 
-small_one : (name source : List ℕ) (a b : Answer) → IsSmallAnswer name source a → IsSmallAnswer name source b → a ≡ b
-small_one name source a b (inl h) (inl k) = h.2 ∙ (ap (λ f. done (header f)) (one_tree source h.0 k.0 h.1 k.1) ∙ sym k.2)
-small_one name source a b (inl h) (inr k) = absurd (k.0 h.0 h.1)
-small_one name source a b (inr h) (inl k) = absurd (h.0 k.0 k.1)
-small_one name source a b (inr h) (inr k) = h.1 ∙ sym k.1
+one_of : (c : Cmd) (names : List (List ℕ)) (given : Given) (a b : Answer) → IsAnswerOf c names given a → IsAnswerOf c names given b → a ≡ b
+one_of cmd.Gen names given a b h k = one_gen_answer true (inputs_of names given) a b h k
+one_of cmd.Check names given a b h k = one_gen_answer false (inputs_of names given) a b h k
+one_of cmd.Dts names given a b h k = one_tree_answer one_script names given.sources a b h k
+one_of cmd.Expand names given a b h k = over_one nothing_known names given.sources a b h k
 
-one_of : (c : Cmd) (names sources : List (List ℕ)) (a b : Answer) → IsAnswerOf c names sources a → IsAnswerOf c names sources b → a ≡ b
-one_of cmd.Gen (name ∷ names) (source ∷ sources) a b h k = small_one name source a b h k
-one_of cmd.Gen [] sources a b h k = absurd h
-one_of cmd.Gen (name ∷ names) [] a b h k = absurd h
-one_of cmd.Dts names sources a b h k = one_tree_answer one_script names sources a b h k
-one_of cmd.Expand names sources a b h k = over_one nothing_known names sources a b h k
-
-one_to : (o : Option Fault) (c : Cmd) (names sources : List (List ℕ)) (a b : Answer)
-    → MatchOption o (IsAnswerOf c names sources a) (λ fault. a ≡ refused fault)
-    → MatchOption o (IsAnswerOf c names sources b) (λ fault. b ≡ refused fault) → a ≡ b
-one_to None c names sources a b h k = one_of c names sources a b h k
-one_to (Some fault) c names sources a b h k = h ∙ sym k
+one_to : (o : Option Fault) (c : Cmd) (names : List (List ℕ)) (given : Given) (a b : Answer)
+    → MatchOption o (IsAnswerOf c names given a) (λ fault. a ≡ refused fault)
+    → MatchOption o (IsAnswerOf c names given b) (λ fault. b ≡ refused fault) → a ≡ b
+one_to None c names given a b h k = one_of c names given a b h k
+one_to (Some fault) c names given a b h k = h ∙ sym k
 
 pub one_answer : (job : Option JobData) (given : Given) (a b : Answer) → IsAnswer job given a → IsAnswer job given b → a ≡ b
 one_answer None given a b h k = h ∙ sym k
-one_answer (Some job) given a b h k = one_to (first_past job.cmd job.names given.sources) job.cmd job.names given.sources a b h k
+one_answer (Some job) given a b h k = one_to (limit_passed job given) job.cmd job.names given a b h k
 
 -- where the files tell what they hold, what was read is known, and so is the answer
+given_of : (g h : Given) → g.sources ≡ h.sources → g.listings ≡ h.listings → g.files ≡ h.files → g ≡ h
+given_of g h a b c = cc
+
+same_listed : (held : List (List ℕ × List ℕ)) (g h : Given) → g.listings ≡ h.listings → AreFiles (Some held) (all_listed g.listings) g.files → AreFiles (Some held) (all_listed h.listings) h.files → g.files ≡ h.files
+same_listed held g h e p q = p.told ∙ (ap (λ l. map (with_content held) (all_listed l)) e ∙ sym q.told)
+
 same_given : (held : List (List ℕ × List ℕ)) (job : Option JobData) (g h : Given) → IsGiven (Some held) job g → IsGiven (Some held) job h → g ≡ h
-same_given held None g h p q = ap (λ (s : List (List ℕ)). record { sources = s }) (p ∙ sym q)
-same_given held (Some job) g h p q = ap (λ (s : List (List ℕ)). record { sources = s }) (p.1 ∙ sym q.1)
+same_given held None g h p q = p ∙ sym q
+same_given held (Some job) g h p q =
+    let listings : g.listings ≡ h.listings = p.listings.told ∙ sym q.listings.told in
+    given_of g h (p.sources.told ∙ sym q.sources.told) listings (same_listed held g h listings p.files q.files)
 
 pub one_from : (files : FilesSeen) (held : List (List ℕ × List ℕ)) → held_of files ≡ Some held → (job : Option JobData) (a b : Answer)
     → IsAnswerFrom files job a → IsAnswerFrom files job b → a ≡ b
@@ -79,21 +78,27 @@ proper_status early false line = record { plain = refl; used = λ e. cc; quiet =
 proper_refused : (early : Bool) (fault : Fault) → IsProper early (refused fault)
 proper_refused early fault = proper_status early (is_limit fault.rule) (fault_line fault)
 
-small_proper : (name source : List ℕ) (a : Answer) → IsSmallAnswer name source a → IsProper false a
-small_proper name source a (inl h) = subst (IsProper false) (sym h.2) (proper_done false (header h.0))
-small_proper name source a (inr h) = subst (IsProper false) (sym h.1) (proper_refused false (record { rule = rule.S6; place = place.Byte name 0 }))
-
-over_proper : (result : Result TreeData Fault) → IsProper false (over_tree result)
-over_proper (Ok tree) = printed_or (nat_lt print_limit (length (printed tree)))
+over_proper : (tree : TreeData) → IsProper false (over_tree tree)
+over_proper tree = printed_or (nat_lt print_limit (length (printed tree)))
   where
-    printed_or : (b : Bool) → IsProper false (if b then refused (record { rule = rule.L10; place = place.Node (codes "/") }) else done (printed tree))
-    printed_or true = proper_refused false (record { rule = rule.L10; place = place.Node (codes "/") })
+    printed_or : (b : Bool) → IsProper false (if b then refused (at_root rule.L10) else done (printed tree))
+    printed_or true = proper_refused false (at_root rule.L10)
     printed_or false = proper_done false (printed tree)
-over_proper (Err fault) = proper_refused false fault
 
 tree_proper : (names sources : List (List ℕ)) (a : Answer) → IsTreeAnswer names sources a → IsProper false a
-tree_proper names sources a (inl h) = subst (IsProper false) (sym h.2) (proper_refused false h.0)
-tree_proper names sources a (inr h) = subst (IsProper false) (sym h.2) (over_proper (outcome names h.0))
+tree_proper names sources a (inl h) = subst (IsProper false) (sym h.2) (over_proper h.0)
+tree_proper names sources a (inr h) = subst (IsProper false) (sym h.2) (proper_refused false h.0)
+
+header_proper : (writes : Bool) (header : List ℕ) → IsProper false (over_header writes header)
+header_proper writes header = written_or (nat_lt header_limit (length header))
+  where
+    written_or : (b : Bool) → IsProper false (if b then refused (at_root rule.L9) else done (if writes then header else []))
+    written_or true = proper_refused false (at_root rule.L9)
+    written_or false = proper_done false (if writes then header else [])
+
+gen_proper : (writes : Bool) (i : Inputs) (a : Answer) → IsGenAnswer writes i a → IsProper false a
+gen_proper writes i a (inl h) = subst (IsProper false) (sym h.2) (header_proper writes (header_text h.0))
+gen_proper writes i a (inr h) = subst (IsProper false) (sym h.2) (proper_refused false h.0)
 
 -- an answer that has some output before its breach
 proper_behind : (b : Bool) (text line : List ℕ) → IsProper true (record { status = if b then status.Limit else status.Rule; text = text; line = line })
@@ -114,20 +119,19 @@ expand_proper (name ∷ []) (source ∷ s ∷ sources) k a h = absurd h
 expand_proper (name ∷ n ∷ names) [] k a h = absurd h
 expand_proper (name ∷ n ∷ names) (source ∷ []) k a h = absurd h
 
-of_proper : (c : Cmd) (names sources : List (List ℕ)) (a : Answer) → IsAnswerOf c names sources a → IsProper (is_early c) a
-of_proper cmd.Gen (name ∷ names) (source ∷ sources) a h = small_proper name source a h
-of_proper cmd.Gen [] sources a h = absurd h
-of_proper cmd.Gen (name ∷ names) [] a h = absurd h
-of_proper cmd.Dts names sources a h = tree_proper names sources a h
-of_proper cmd.Expand names sources a h = expand_proper names sources nothing_known a h
+of_proper : (c : Cmd) (names : List (List ℕ)) (given : Given) (a : Answer) → IsAnswerOf c names given a → IsProper (is_early c) a
+of_proper cmd.Gen names given a h = gen_proper true (inputs_of names given) a h
+of_proper cmd.Check names given a h = gen_proper false (inputs_of names given) a h
+of_proper cmd.Dts names given a h = tree_proper names given.sources a h
+of_proper cmd.Expand names given a h = expand_proper names given.sources nothing_known a h
 
-to_proper : (o : Option Fault) (c : Cmd) (names sources : List (List ℕ)) (a : Answer)
-    → MatchOption o (IsAnswerOf c names sources a) (λ fault. a ≡ refused fault) → IsProper (is_early c) a
-to_proper None c names sources a h = of_proper c names sources a h
-to_proper (Some fault) c names sources a h = subst (IsProper (is_early c)) (sym h) (proper_refused (is_early c) fault)
+to_proper : (o : Option Fault) (c : Cmd) (names : List (List ℕ)) (given : Given) (a : Answer)
+    → MatchOption o (IsAnswerOf c names given a) (λ fault. a ≡ refused fault) → IsProper (is_early c) a
+to_proper None c names given a h = of_proper c names given a h
+to_proper (Some fault) c names given a h = subst (IsProper (is_early c)) (sym h) (proper_refused (is_early c) fault)
 
 pub job_proper : (job : JobData) (given : Given) (a : Answer) → IsAnswer (Some job) given a → IsProper (is_early job.cmd) a
-job_proper job given a h = to_proper (first_past job.cmd job.names given.sources) job.cmd job.names given.sources a h
+job_proper job given a h = to_proper (limit_passed job given) job.cmd job.names given a h
 
 pub answer_plain : (job : Option JobData) (given : Given) (a : Answer) → IsAnswer job given a → IsTrue (is_plain a.status)
 answer_plain None given a h = ap (λ (x : Answer). is_plain x.status) h

@@ -180,3 +180,21 @@ pub is_listed : (files : List (List ℕ × List ℕ)) (dir : List ℕ) (names : 
 is_listed files dir names sorted moves =
     unique names (in_order (names_below dir files)) (rises names sorted) (rises_in_order (names_below dir files))
     (λ v. moved v (names_below dir files) names moves ∙ sym (count_in_order v (names_below dir files)))
+
+-- ---- how many there are
+
+length_put : (x : List ℕ) (ys : List (List ℕ)) → length (put_in_order x ys) ≡ suc (length ys)
+length_put x [] = refl
+length_put x (y ∷ ys) = by (cmp x y) (length_put x ys)
+  where
+    by : (o : Ordering) → length (put_in_order x ys) ≡ suc (length ys) → length (put_by o x y ys (put_in_order x ys)) ≡ suc (suc (length ys))
+    by Less e = refl
+    by Equal e = refl
+    by Greater e = ap suc e
+
+length_in_order : (xs : List (List ℕ)) → length (in_order xs) ≡ length xs
+length_in_order [] = refl
+length_in_order (x ∷ xs) = length_put x (in_order xs) ∙ ap suc (length_in_order xs)
+
+pub as_many_listed : (files : List (List ℕ × List ℕ)) (dir : List ℕ) → length (listed files dir) ≡ length (names_below dir files)
+as_many_listed files dir = length_in_order (names_below dir files)

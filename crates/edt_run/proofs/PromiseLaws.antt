@@ -222,7 +222,7 @@ no_job_text r wanted none (inr h) = stop_text r.files_old r.files_new (job_of r.
 
 no_job_status : (r : Run) (wanted : Answer) (said : Status) → said ≡ wanted.status → job_of r.words ≡ None → IsWantedAs r.files_old r.files_new (job_of r.words) said wanted
     → (said ≡ status.Usage) ⊎ (said ≡ status.Memory)
-no_job_status r wanted status.Read is none h = absurd (subst (λ o. IsReadOf o h.1.0) none h.1.1.is_of_job)
+no_job_status r wanted status.Read is none h = absurd (subst (λ o. IsReadOf (held_of r.files_old) o h.1.0) none h.1.1.is_of_job)
 no_job_status r wanted status.Memory is none h = inr refl
 no_job_status r wanted status.Write is none h = absurd h
 no_job_status r wanted status.Usage is none h = inl refl

@@ -1,26 +1,29 @@
 -- What a run decided and what became of writing it make the run.
 use Rattle.std.proofs.Common.{◌≡◌, ◌∙◌, ◌++◌, ℕ, Bool, List, [], Option, Some, None, Result, Ok, Err, IfOk, IsTrue, MatchOption, if◌then◌else◌, inl, inr, refl, string_bytes, sym, subst, true, false}
-use Rattle.edt_base.specs.declared.outside.Call.TheVariants as call
 use Rattle.edt_base.specs.Outside.{FilesSeen, Wrote, held_of}
 use Rattle.edt_base.proofs.WriteLaws.{wrote_nothing}
 use Rattle.edt_run.specs.declared.sources.Stop.{Stop}
 use Rattle.edt_run.specs.declared.sources.Stop.TheVariants as stop
 use Rattle.edt_run.specs.declared.top.Status.{Status}
 use Rattle.edt_run.specs.declared.top.Status.TheVariants as status
-use Rattle.edt_run.specs.Answer.{Answer, done, refusal, refused, usage_line, memory_line, write_line, too_long}
+use Rattle.edt_run.specs.Answer.{Answer, Given, done, nothing_given, refusal, refused, usage_line, memory_line, write_line}
 use Rattle.edt_run.specs.declared.decision.Decision.{Decision}
 use Rattle.edt_run.specs.declared.decision.Decision.TheVariants as decision
 use Rattle.edt_run.specs.declared.refusal.Refusal.{Refusal}
 use Rattle.edt_base.specs.declared.fault.Fault.{Fault}
-use Rattle.edt_run.specs.ExpandAnswer.{IsTextAnswer}
-use Rattle.edt_run.specs.Nodes.{forest_of}
-use Rattle.edt_run.specs.Header.{header}
+use Rattle.edt_run.specs.ExpandAnswer.{IsExpandAnswer, IsTextAnswer}
+use Rattle.edt_run.specs.GenAnswer.{IsGenAnswer}
+use Rattle.edt_run.specs.Reading.{IsRead, IsReadStop, ReadData, given_by}
+use Rattle.edt_run.specs.TreeAnswer.{IsTreeAnswer}
+use Rattle.edt_run.specs.declared.asked.Cmd.{Cmd}
+use Rattle.edt_run.specs.declared.asked.Cmd.TheVariants as cmd
+use Rattle.head_write.specs.Header.{header_text}
 use Rattle.dts_print.specs.Printed.{printed}
 use Rattle.c_macro.specs.Directive.{Known}
 use Rattle.c_macro.specs.Table.{known_of}
 use Rattle.edt_run.specs.Job.{JobData, job_of}
-use Rattle.edt_run.specs.Promises.{Run, IsAnswerOf, IsAnswerFrom, KeepsFiles, is_plain, writes_early}
-use Rattle.edt_run.specs.Steps.{Ran, IsSaid, IsWanted, IsWantedAs, LeadsTo, AreRead, IsReadStop, IsRefusedBy}
+use Rattle.edt_run.specs.Promises.{Run, IsAnswerOf, IsAnswerFrom, KeepsFiles, inputs_of, is_plain, writes_early}
+use Rattle.edt_run.specs.Steps.{Ran, IsSaid, IsWanted, IsWantedAs, LeadsTo, IsRefusedBy}
 use Rattle.edt_run.proofs.AnswerLaws.{answer_plain, ended_proper}
 use Rattle.edt_run.proofs.PromiseLaws.{either, plain_answer}
 
@@ -42,32 +45,44 @@ as_answer old new job status.Limit w plain h = h
 answered : (old new : FilesSeen) (job : Option JobData) (w : Answer) → IsAnswerFrom old job w → IsWanted old new job w
 answered old new job w h = as_answer old new job w.status w (answer_plain job h.0 w h.2) h
 
--- over sources that were read
-pub wanted_over : (old new : FilesSeen) (job : JobData) (sources : List (List ℕ)) (w : Answer) → AreRead (held_of old) job.cmd job.names sources
-    → IsAnswerOf job.cmd job.names sources w → IsWanted old new (Some job) w
-wanted_over old new job sources w read h =
-    let P : Option Fault → Type 0 = λ o. MatchOption o (IsAnswerOf job.cmd job.names sources w) (λ fault. w ≡ refused fault) in
-    answered old new (Some job) w (record { sources = sources }, (read.of_names.as_many, read.of_names.told), subst P (sym read.within) h)
+-- what is answered hangs on the bytes of the sources and on the binding files
+inputs_same : (names : List (List ℕ)) (given : Given) (read : ReadData) → read.sources ≡ given.sources → read.files ≡ given.files → inputs_of names (given_by read) ≡ inputs_of names given
+inputs_same names given read s f = cc
 
--- over sources that couldn't be read, or have too many bytes
-pub wanted_stopped : (old new : FilesSeen) (job : JobData) (why : Stop) (w : Answer) → IsReadStop old new job.cmd job.names why → IsRefusedBy why w → IsWanted old new (Some job) w
-wanted_stopped old new job (stop.Failed name) w h is =
-    subst (λ a. IsWanted old new (Some job) a) (sym is) (refl, (call.Read name, record { is_of_job = h.0; rose = h.1; last = h.2 }, refl))
+of_given : (c : Cmd) (names : List (List ℕ)) (given : Given) (read : ReadData) (w : Answer) → read.sources ≡ given.sources → read.files ≡ given.files
+    → IsAnswerOf c names (given_by read) w → IsAnswerOf c names given w
+of_given cmd.Gen names given read w s f h = subst (λ i. IsGenAnswer true i w) (inputs_same names given read s f) h
+of_given cmd.Check names given read w s f h = subst (λ i. IsGenAnswer false i w) (inputs_same names given read s f) h
+of_given cmd.Dts names given read w s f h = subst (λ x. IsTreeAnswer names x w) s h
+of_given cmd.Expand names given read w s f h = subst (λ x. IsExpandAnswer names x w) s h
+
+-- over what was read
+pub wanted_over : (old new : FilesSeen) (job : JobData) (read : ReadData) (w : Answer) → IsRead (held_of old) job read
+    → IsAnswerOf job.cmd job.names (given_by read) w → IsWanted old new (Some job) w
+wanted_over old new job read w r h =
+    let P : Option Fault → Type 0 = λ o. MatchOption o (IsAnswerOf job.cmd job.names r.given w) (λ fault. w ≡ refused fault) in
+    answered old new (Some job) w (r.given, r.is_given, subst P (sym r.within) (of_given job.cmd job.names r.given read w r.sources r.files h))
+
+-- over what couldn't be read, or passes a limit
+pub wanted_stopped : (old new : FilesSeen) (job : JobData) (why : Stop) (w : Answer) → IsReadStop old new job why → IsRefusedBy why w → IsWanted old new (Some job) w
+wanted_stopped old new job (stop.Failed c) w h is =
+    subst (λ a. IsWanted old new (Some job) a) (sym is) (refl, (c, record { is_of_job = h.0; rose = h.1; last = h.2 }, refl))
 wanted_stopped old new job (stop.TooLong limit name) w h is =
-    let P : Option Fault → Type 0 = λ o. MatchOption o (IsAnswerOf job.cmd job.names h.sources w) (λ fault. w ≡ refused fault) in
-    answered old new (Some job) w (record { sources = h.sources }, (h.of_names.as_many, h.of_names.told), subst P (sym h.past) is)
+    let P : Option Fault → Type 0 = λ o. MatchOption o (IsAnswerOf job.cmd job.names h.given w) (λ fault. w ≡ refused fault) in
+    answered old new (Some job) w (h.given, h.is_given, subst P (sym h.past) is)
 wanted_stopped old new job (stop.Memory e) w h is = absurd is
 
 -- what follows from a fact of each answer of a decision
 pub leads_map : (early late : Bool) (d : Decision) (P Q : Answer → Type 0) → (early ≡ true → late ≡ true) → ((a : Answer) → P a → Q a) → LeadsTo early d P → LeadsTo late d Q
-leads_map early late (decision.Header nodes) P Q e f h = f (done (header (forest_of nodes.items))) h
+leads_map early late (decision.Header bound) P Q e f h = f (done (header_text bound)) h
+leads_map early late decision.Tested P Q e f h = f (done []) h
 leads_map early late (decision.Source tree) P Q e f h = f (done (printed tree)) h
 leads_map early late (decision.Lines defs name text) P Q e f h = (e h.0, λ a is. f a (h.1 a is))
 leads_map early late (decision.Refused said) P Q e f h = f (refusal said.status (string_bytes said.line)) h
 
 -- words that are no job
 wanted_usage : (old new : FilesSeen) (job : Option JobData) → job ≡ None → IsWanted old new job (refusal status.Usage usage_line)
-wanted_usage old new job none = subst (λ o. IsAnswerFrom old o (refusal status.Usage usage_line)) (sym none) (record { sources = [] }, refl, refl)
+wanted_usage old new job none = subst (λ o. IsAnswerFrom old o (refusal status.Usage usage_line)) (sym none) (nothing_given, refl, refl)
 
 -- ---- the run
 

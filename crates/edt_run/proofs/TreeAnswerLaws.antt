@@ -1,12 +1,13 @@
 -- `dts` has one answer.
-use Rattle.std.proofs.Common.{◌≡◌, ◌∙◌, ◌<◌, ◌⊎◌, ℕ, Bool, true, false, List, [], ◌∷◌, refl, sym, ap, inl, inr, arith}
+use Rattle.std.proofs.Common.{◌≡◌, ◌∙◌, ◌<◌, ◌⊎◌, ℕ, Bool, true, false, List, [], ◌∷◌, Result, Ok, Err, refl, sym, ap, inl, inr, arith}
+use Rattle.edt_base.specs.TreeData.{TreeData}
 use Rattle.edt_base.specs.declared.fault.Fault.{Fault}
 use Rattle.edt_base.specs.declared.fault.Place.TheVariants as place
 use Rattle.dts_parse.specs.Source.{BreaksNone, HasOneScript, rule_of}
 use Rattle.dts_parse.specs.StmtData.{StmtData}
 use Rattle.dts_tree.specs.Outcome.{outcome}
 use Rattle.edt_run.specs.Answer.{Answer, refused}
-use Rattle.edt_run.specs.TreeAnswer.{AreScripts, IsFaultOf, IsFirstOf, IsTreeAnswer, over_tree}
+use Rattle.edt_run.specs.TreeAnswer.{AreScripts, BreaksTree, IsFaultOf, IsFirstOf, IsTreeAnswer, Leaves, over_tree}
 
 -- ---- a source has one first fault
 
@@ -62,9 +63,35 @@ same_scripts one base [] [] (y ∷ b) h k = absurd k
 same_scripts one base (source ∷ sources) [] b h k = absurd h
 same_scripts one base (source ∷ sources) (x ∷ a) [] h k = absurd k
 
+-- ---- one tree
+
+tree_same : (t u : TreeData) → ◌≡◌ {A = Result TreeData Fault} (Ok t) (Ok u) → t ≡ u
+tree_same t u e = cc
+
+fault_same : (f g : Fault) → ◌≡◌ {A = Result TreeData Fault} (Err f) (Err g) → f ≡ g
+fault_same f g e = cc
+
+ok_or_err : (t : TreeData) (f : Fault) → ◌≡◌ {A = Result TreeData Fault} (Ok t) (Err f) → ⊥
+ok_or_err t f e = cc
+
+same_outcome : HasOneScript → (names sources : List (List ℕ)) (a b : List (List StmtData)) → AreScripts true sources a → AreScripts true sources b → outcome names a ≡ outcome names b
+same_outcome one names sources a b h k = ap (outcome names) (same_scripts one true sources a b h k)
+
+pub one_left : HasOneScript → (names sources : List (List ℕ)) (t u : TreeData) → Leaves names sources t → Leaves names sources u → t ≡ u
+one_left one names sources t u h k = tree_same t u (sym h.2 ∙ (same_outcome one names sources h.0 k.0 h.1 k.1 ∙ k.2))
+
+pub one_break : HasOneScript → (names sources : List (List ℕ)) (f g : Fault) → BreaksTree names sources f → BreaksTree names sources g → f ≡ g
+one_break one names sources f g (inl h) (inl k) = one_first true names sources f g h k
+one_break one names sources f g (inl h) (inr k) = absurd (first_or_scripts true names sources f k.0 h k.1)
+one_break one names sources f g (inr h) (inl k) = absurd (first_or_scripts true names sources g h.0 k h.1)
+one_break one names sources f g (inr h) (inr k) = fault_same f g (sym h.2 ∙ (same_outcome one names sources h.0 k.0 h.1 k.1 ∙ k.2))
+
+pub left_or_break : HasOneScript → (names sources : List (List ℕ)) (t : TreeData) (f : Fault) → Leaves names sources t → BreaksTree names sources f → ⊥
+left_or_break one names sources t f h (inl k) = first_or_scripts true names sources f h.0 k h.1
+left_or_break one names sources t f h (inr k) = ok_or_err t f (sym h.2 ∙ (same_outcome one names sources h.0 k.0 h.1 k.1 ∙ k.2))
+
 pub one_tree_answer : HasOneScript → (names sources : List (List ℕ)) (a b : Answer) → IsTreeAnswer names sources a → IsTreeAnswer names sources b → a ≡ b
-one_tree_answer one names sources a b (inl h) (inl k) = h.2 ∙ (ap refused (one_first true names sources h.0 k.0 h.1 k.1) ∙ sym k.2)
-one_tree_answer one names sources a b (inl h) (inr k) = absurd (first_or_scripts true names sources h.0 k.0 h.1 k.1)
-one_tree_answer one names sources a b (inr h) (inl k) = absurd (first_or_scripts true names sources k.0 h.0 k.1 h.1)
-one_tree_answer one names sources a b (inr h) (inr k) =
-    h.2 ∙ (ap (λ s. over_tree (outcome names s)) (same_scripts one true sources h.0 k.0 h.1 k.1) ∙ sym k.2)
+one_tree_answer one names sources a b (inl h) (inl k) = h.2 ∙ (ap over_tree (one_left one names sources h.0 k.0 h.1 k.1) ∙ sym k.2)
+one_tree_answer one names sources a b (inl h) (inr k) = absurd (left_or_break one names sources h.0 k.0 h.1 k.1)
+one_tree_answer one names sources a b (inr h) (inl k) = absurd (left_or_break one names sources k.0 h.0 k.1 h.1)
+one_tree_answer one names sources a b (inr h) (inr k) = h.2 ∙ (ap refused (one_break one names sources h.0 k.0 h.1 k.1) ∙ sym k.2)

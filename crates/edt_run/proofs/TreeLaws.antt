@@ -14,9 +14,9 @@ use Rattle.dts_parse.specs.StmtData.{StmtData}
 use Rattle.dts_tree.specs.Outcome.{outcome}
 use Rattle.dts_tree.specs.References.{Answers}
 use Rattle.dts_print.specs.Printed.{printed}
-use Rattle.edt_run.specs.Answer.{done, refused}
-use Rattle.edt_run.specs.TreeAnswer.{AreScripts, IsFaultOf, IsFirstOf, IsTreeAnswer, over_tree, print_limit}
-use Rattle.edt_run.specs.TreeSteps.{IsOver, IsScriptStop}
+use Rattle.edt_run.specs.Answer.{at_root, done, refused}
+use Rattle.edt_run.specs.TreeAnswer.{AreScripts, IsFaultOf, IsFirstOf, IsTreeAnswer, Leaves, over_tree, print_limit}
+use Rattle.edt_run.specs.TreeSteps.{IsLeft, IsOver, IsScriptStop}
 
 -- ---- the statements of the sources, one source after another
 
@@ -54,32 +54,31 @@ along_all names sources at scripts none along =
 
 -- ---- the tree
 
-refused_by_scripts : (names sources : List (List ℕ)) (f : Fault) → IsFirstOf true names sources f → IsTreeAnswer names sources (refused f)
-refused_by_scripts names sources f h = inl (f, h, refl)
-
-pub stopped_at_scripts : (names sources : List (List ℕ)) (end : End) → IsScriptStop names sources end → IsOver names sources (Err end)
-stopped_at_scripts names sources (ending.Fault f) h = refused_by_scripts names sources f h
+pub stopped_at_scripts : (names sources : List (List ℕ)) (end : End) → IsScriptStop names sources end → IsLeft names sources (Err end)
+stopped_at_scripts names sources (ending.Fault f) h = inl h
 stopped_at_scripts names sources (ending.Memory e) h = tt
 
-pub stopped_at_tree : (names sources : List (List ℕ)) (scripts : List (List StmtData)) (end : End) → AreScripts true sources scripts
-    → Answers (outcome names scripts) (Err end) → IsOver names sources (Err end)
-stopped_at_tree names sources scripts (ending.Fault f) h is = inr (scripts, h, ap over_tree (sym is))
-stopped_at_tree names sources scripts (ending.Memory e) h is = tt
+pub ends_at_tree : (names sources : List (List ℕ)) (scripts : List (List StmtData)) (r : Result TreeData End) → AreScripts true sources scripts
+    → Answers (outcome names scripts) r → IsLeft names sources r
+ends_at_tree names sources scripts (Ok t) h is = (scripts, h, is)
+ends_at_tree names sources scripts (Err (ending.Fault f)) h is = inr (scripts, h, is)
+ends_at_tree names sources scripts (Err (ending.Memory e)) h is = tt
 
-too_much : (tree : TreeData) → print_limit < length (printed tree) → over_tree (Ok tree) ≡ refused (record { rule = rule.L10; place = place.Node (codes "/") })
+-- ---- its text
+
+pub not_left : (names sources : List (List ℕ)) (end : End) → IsLeft names sources (Err end) → IsOver names sources (Err end)
+not_left names sources (ending.Fault f) h = inr (f, h, refl)
+not_left names sources (ending.Memory e) h = tt
+
+too_much : (tree : TreeData) → print_limit < length (printed tree) → over_tree tree ≡ refused (at_root rule.L10)
 too_much tree more = grind (arith, more)
 
-fits : (tree : TreeData) → length (printed tree) ≤ print_limit → over_tree (Ok tree) ≡ done (printed tree)
+fits : (tree : TreeData) → length (printed tree) ≤ print_limit → over_tree tree ≡ done (printed tree)
 fits tree less = grind (arith, less)
-
-pub stopped_at_limit : (names sources : List (List ℕ)) (scripts : List (List StmtData)) (tree : TreeData) → AreScripts true sources scripts
-    → outcome names scripts ≡ Ok tree → print_limit < length (printed tree)
-    → IsTreeAnswer names sources (refused (record { rule = rule.L10; place = place.Node (codes "/") }))
-stopped_at_limit names sources scripts tree h is more = inr (scripts, h, sym (ap over_tree is ∙ too_much tree more))
 
 -- what is found over the sources is the answer
 pub answer_of_tree : (names sources : List (List ℕ)) (tree : TreeData) → IsOver names sources (Ok tree) → IsTreeAnswer names sources (done (printed tree))
-answer_of_tree names sources tree h = inr (h.0, h.1, sym (ap over_tree h.2 ∙ fits tree h.3))
+answer_of_tree names sources tree h = inl (tree, h.0, sym (fits tree h.1))
 
 -- ---- the same, as the code goes
 
@@ -128,11 +127,10 @@ as_many base [] (script ∷ scripts) h = absurd h
 as_many base (source ∷ sources) [] h = absurd h
 
 -- the tree fits, or there is too much of it
-pub over_limit : (names sources : List (List ℕ)) (scripts : List (List StmtData)) (tree : TreeData) (len : ℕ) → AreScripts true sources scripts
-    → outcome names scripts ≡ Ok tree → len ≡ min (length (printed tree)) (2 ^ 64 - 1) → print_limit < len
-    → IsTreeAnswer names sources (refused (record { rule = rule.L10; place = place.Node (codes "/") }))
-over_limit names sources scripts tree len h is long more = stopped_at_limit names sources scripts tree h is (omega (arith, long, more))
+pub over_limit : (names sources : List (List ℕ)) (tree : TreeData) (len : ℕ) → Leaves names sources tree
+    → len ≡ min (length (printed tree)) (2 ^ 64 - 1) → print_limit < len → IsTreeAnswer names sources (refused (at_root rule.L10))
+over_limit names sources tree len h long more = inl (tree, h, sym (too_much tree (omega (arith, long, more))))
 
-pub within_limit : (names sources : List (List ℕ)) (scripts : List (List StmtData)) (tree : TreeData) (len : ℕ) → AreScripts true sources scripts
-    → outcome names scripts ≡ Ok tree → len ≡ min (length (printed tree)) (2 ^ 64 - 1) → len ≤ print_limit → IsOver names sources (Ok tree)
-within_limit names sources scripts tree len h is long less = (scripts, h, is, omega (arith, long, less))
+pub within_limit : (names sources : List (List ℕ)) (tree : TreeData) (len : ℕ) → Leaves names sources tree
+    → len ≡ min (length (printed tree)) (2 ^ 64 - 1) → len ≤ print_limit → IsOver names sources (Ok tree)
+within_limit names sources tree len h long less = (h, omega (arith, long, less))

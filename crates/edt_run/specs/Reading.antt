@@ -1,5 +1,5 @@
 -- The steps of reading what a job names: its sources, the folders' listings, and the binding files that these list.
-use Rattle.std.specs.Prelude.{◌≡◌, ◌≤◌, ◌⊎◌, ℕ, List, Option, Some, None, IfSome, Contains, length}
+use Rattle.std.specs.Prelude.{◌≡◌, ◌≤◌, ◌⊎◌, ℕ, List, [], Option, Some, None, IfSome, Contains, length}
 use Rattle.edt_base.specs.declared.fault.Fault.{Fault}
 use Rattle.edt_base.specs.declared.fault.Rule.{Rule}
 use Rattle.edt_base.specs.declared.fault.Rule.TheVariants as rule
@@ -46,6 +46,10 @@ pub record AreFilesRead (held : Held) (names : List (List ℕ)) (files : List (L
 pub record ReadData : Type 0 where
   pub sources : List (List ℕ)
   pub files : List (List ℕ × List ℕ)
+
+-- what is answered hangs on these alone
+abbrev pub given_by : ReadData → Given
+given_by read = record { sources = read.sources; listings = []; files = read.files }
 
 -- all of it was read, and is within the limits
 pub record IsRead (held : Held) (job : JobData) (read : ReadData) : Type 0 where

@@ -4,10 +4,11 @@
 
 ghost use Rattle.std.specs.Prelude.{◌≡◌, ◌<◌, ◌≤◌, IfOk, Some, false, length, true};
 ghost use Rattle.edt_base.specs.Outside.{held_of};
-ghost use Rattle.edt_run.specs.Answer.{Given, names_limit};
+ghost use Rattle.edt_run.specs.Answer.{names_limit};
 ghost use Rattle.edt_run.specs.ExpandAnswer.{IsExpandAnswer};
 ghost use Rattle.edt_run.specs.Promises.{IsAnswerOf, is_early, writes_early};
 ghost use Rattle.edt_run.specs.GenAnswer.{IsGenAnswer};
+ghost use Rattle.edt_run.specs.Reading.{given_by};
 ghost use Rattle.edt_run.specs.TreeAnswer.{IsTreeAnswer};
 ghost use Rattle.edt_run.specs.Steps.{IsRefusedBy, IsWanted, LeadsTo};
 
@@ -81,9 +82,8 @@ fn stopped(alloc: Global, stop: Stop) -> Result<Decision, AllocError>
 fn over_read(alloc: Global, job: &Job, read: Read) -> Result<Decision, AllocError>
     requires as_many { length read.sources ≡ length job.now.names }
     requires few { length read.files ≤ names_limit }
-    ensures { (given : Given) → given.sources ≡ read.sources → given.files ≡ read.files
-        → IfOk result (λ d. LeadsTo (is_early job.now.cmd) d
-        (IsAnswerOf job.now.cmd job.now.names given)) }
+    ensures { IfOk result (λ d. LeadsTo (is_early job.now.cmd) d
+        (IsAnswerOf job.now.cmd job.now.names (given_by read))) }
 {
     job.has_names();
     match job.cmd {
