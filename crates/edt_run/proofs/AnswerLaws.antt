@@ -1,5 +1,5 @@
 -- Each job has one answer, which tells of the words and the files, and a refusal writes nothing.
-use Rattle.std.proofs.Common.{◌≡◌, ◌∙◌, if◌then◌else◌, length, map, nat_lt, ℕ, Bool, true, false, List, [], ◌∷◌, Option, Some, None, MatchOption, IsTrue, refl, sym, ap, subst, inl, inr}
+use Rattle.std.proofs.Common.{◌≡◌, ◌∙◌, if◌then◌else◌, length, map, nat_lt, ℕ, Bool, true, false, List, [], ◌∷◌, Option, Some, None, MatchOption, IsTrue, refl, sym, ap, subst, inl, inr, arith}
 use Rattle.edt_base.specs.declared.fault.Fault.{Fault}
 use Rattle.edt_base.specs.declared.fault.Rule.TheVariants as rule
 use Rattle.edt_base.specs.FaultText.{is_limit}
@@ -42,7 +42,7 @@ one_answer (Some job) given a b h k = one_to (limit_passed job given) job.cmd jo
 
 -- where the files tell what they hold, what was read is known, and so is the answer
 given_of : (g h : Given) → g.sources ≡ h.sources → g.listings ≡ h.listings → g.files ≡ h.files → g ≡ h
-given_of g h a b c = cc
+given_of g h a b c = grind (arith, a, b, c)
 
 same_listed : (held : List (List ℕ × List ℕ)) (g h : Given) → g.listings ≡ h.listings → AreFiles (Some held) (all_listed g.listings) g.files → AreFiles (Some held) (all_listed h.listings) h.files → g.files ≡ h.files
 same_listed held g h e p q = p.told ∙ (ap (λ l. map (with_content held) (all_listed l)) e ∙ sym q.told)

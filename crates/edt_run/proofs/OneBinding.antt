@@ -1,5 +1,5 @@
 -- Loading the bindings has one outcome: the merged bindings, or the first fault.
-use Rattle.std.proofs.Common.{◌≡◌, ◌∙◌, ◌⊎◌, ◌++◌, ℕ, zero, suc, Bool, true, false, IsTrue, List, [], ◌∷◌, Option, Some, None, option_map, map, refl, sym, ap, subst, inl, inr}
+use Rattle.std.proofs.Common.{◌≡◌, ◌∙◌, ◌⊎◌, ◌++◌, ℕ, zero, suc, Bool, true, false, IsTrue, List, [], ◌∷◌, Option, Some, None, option_map, map, refl, sym, ap, subst, inl, inr, arith}
 use Rattle.edt_base.specs.YamlData.{Value}
 use Rattle.edt_base.specs.declared.bound.PropType.{PropType}
 use Rattle.edt_base.specs.declared.fault.Fault.{Fault}
@@ -32,7 +32,7 @@ GivesAll x y = (s : Setting) → Gives x s → Gives y s
 
 entry_of : (x y : EntryData) → x.name ≡ y.name → x.ty ≡ y.ty → x.required ≡ y.required → x.deprecated ≡ y.deprecated → x.default ≡ y.default → x.constant ≡ y.constant
     → x.choices ≡ y.choices → x.space ≡ y.space → x.cells ≡ y.cells → x ≡ y
-entry_of x y a b c d e f g h i = cc
+entry_of x y a b c d e f g h i = grind (arith, a, b, c, d, e, f, g, h, i)
 
 one_entry : (x y : EntryData) → x.name ≡ y.name → GivesAll x y → GivesAll y x → x ≡ y
 one_entry x y same f g = entry_of x y same
@@ -84,7 +84,7 @@ same_bool false true f g = g refl
 same_bool false false f g = refl
 
 level_of : (l m : LevelTable) → l.described ≡ m.described → l.buses ≡ m.buses → l.on_bus ≡ m.on_bus → l.spaces ≡ m.spaces → l.props ≡ m.props → l ≡ m
-level_of l m a b c d e = cc
+level_of l m a b c d e = grind (arith, a, b, c, d, e)
 
 abbrev SayAll : List LevelTable → List LevelTable → Type 0
 SayAll ls ms = (n : ℕ) (f : Fact) → SaysAt ls n f → SaysAt ms n f
@@ -110,25 +110,25 @@ one_merged files k ls ms p q =
 -- ---- bindings without fault
 
 binding_of : (a b : BindingData) → a.file ≡ b.file → a.levels ≡ b.levels → a ≡ b
-binding_of a b p q = cc
+binding_of a b p q = grind (arith, p, q)
 
-first_of : (a b : ℕ) (as bs : List ℕ) → ◌≡◌ {A = List ℕ} (a ∷ as) (b ∷ bs) → a ≡ b
-first_of a b as bs e = cc
+first_of : (a b : ℕ) (us bs : List ℕ) → ◌≡◌ {A = List ℕ} (a ∷ us) (b ∷ bs) → a ≡ b
+first_of a b us bs e = cc
 
-others_of : (a b : ℕ) (as bs : List ℕ) → ◌≡◌ {A = List ℕ} (a ∷ as) (b ∷ bs) → as ≡ bs
-others_of a b as bs e = cc
+others_of : (a b : ℕ) (us bs : List ℕ) → ◌≡◌ {A = List ℕ} (a ∷ us) (b ∷ bs) → us ≡ bs
+others_of a b us bs e = cc
 
-same_sound : (files : List FileData) (as bs : List BindingData) → files_of as ≡ files_of bs → AreSound files as → AreSound files bs → as ≡ bs
+same_sound : (files : List FileData) (us bs : List BindingData) → files_of us ≡ files_of bs → AreSound files us → AreSound files bs → us ≡ bs
 same_sound files [] [] e p q = refl
 same_sound files [] (b ∷ bs) e p q = cc
-same_sound files (a ∷ as) [] e p q = cc
-same_sound files (a ∷ as) (b ∷ bs) e p q =
-    let file : a.file ≡ b.file = first_of a.file b.file (files_of as) (files_of bs) e in
+same_sound files (a ∷ us) [] e p q = cc
+same_sound files (a ∷ us) (b ∷ bs) e p q =
+    let file : a.file ≡ b.file = first_of a.file b.file (files_of us) (files_of bs) e in
     let levels : a.levels ≡ b.levels = one_merged files b.file a.levels b.levels (subst (λ k. IsMerged files k a.levels) file p.0.merged) q.0.merged in
-    ap (λ z. z ∷ as) (binding_of a b file levels) ∙ ap (λ zs. b ∷ zs) (same_sound files as bs (others_of a.file b.file (files_of as) (files_of bs) e) p.1 q.1)
+    ap (λ z. z ∷ us) (binding_of a b file levels) ∙ ap (λ zs. b ∷ zs) (same_sound files us bs (others_of a.file b.file (files_of us) (files_of bs) e) p.1 q.1)
 
-pub one_loaded : (files : List File) (compats : List (List ℕ)) (as bs : List BindingData) → IsLoaded files compats as → IsLoaded files compats bs → as ≡ bs
-one_loaded files compats as bs p q = same_sound (read_files files) as bs (p.files_are ∙ sym q.files_are) p.sound q.sound
+pub one_loaded : (files : List File) (compats : List (List ℕ)) (us bs : List BindingData) → IsLoaded files compats us → IsLoaded files compats bs → us ≡ bs
+one_loaded files compats us bs p q = same_sound (read_files files) us bs (p.files_are ∙ sym q.files_are) p.sound q.sound
 
 -- ---- a binding with a fault
 
@@ -157,33 +157,33 @@ one_break files k f g (inr h) (inl j) = absurd (none_some g (sym h.0 ∙ j))
 one_break files k f g (inr h) (inr j) = one_merge files k f g h.1 j.1
 
 -- the first binding with a fault
-meet : (files : List FileData) (as bs : List BindingData) (a b : ℕ) (xs ys : List ℕ) (f g : Fault) → files_of as ++ a ∷ xs ≡ files_of bs ++ b ∷ ys → AreSound files as → AreSound files bs
+meet : (files : List FileData) (us bs : List BindingData) (a b : ℕ) (xs ys : List ℕ) (f g : Fault) → files_of us ++ a ∷ xs ≡ files_of bs ++ b ∷ ys → AreSound files us → AreSound files bs
     → BreaksAt files a f → BreaksAt files b g → f ≡ g
 meet files [] [] a b xs ys f g e p q h j = one_break files b f g (subst (λ k. BreaksAt files k f) (first_of a b xs ys e) h) j
 meet files [] (c ∷ bs) a b xs ys f g e p q h j =
     absurd (sound_breaks files c.file c.levels f q.0 (subst (λ k. BreaksAt files k f) (first_of a c.file xs (files_of bs ++ b ∷ ys) e) h))
-meet files (c ∷ as) [] a b xs ys f g e p q h j =
-    absurd (sound_breaks files c.file c.levels g p.0 (subst (λ k. BreaksAt files k g) (sym (first_of c.file b (files_of as ++ a ∷ xs) ys e)) j))
-meet files (c ∷ as) (d ∷ bs) a b xs ys f g e p q h j =
-    meet files as bs a b xs ys f g (others_of c.file d.file (files_of as ++ a ∷ xs) (files_of bs ++ b ∷ ys) e) p.1 q.1 h j
+meet files (c ∷ us) [] a b xs ys f g e p q h j =
+    absurd (sound_breaks files c.file c.levels g p.0 (subst (λ k. BreaksAt files k g) (sym (first_of c.file b (files_of us ++ a ∷ xs) ys e)) j))
+meet files (c ∷ us) (d ∷ bs) a b xs ys f g e p q h j =
+    meet files us bs a b xs ys f g (others_of c.file d.file (files_of us ++ a ∷ xs) (files_of bs ++ b ∷ ys) e) p.1 q.1 h j
 
 one_broken : (files : List FileData) (ks : List ℕ) (f g : Fault) → IsFirstBroken files ks f → IsFirstBroken files ks g → f ≡ g
 one_broken files ks f g h j = meet files h.before j.before h.broken j.broken h.after j.after f g (sym h.parts ∙ j.parts) h.sound j.sound h.breaks j.breaks
 
-all_sound : (files : List FileData) (as bs : List BindingData) (a : ℕ) (xs : List ℕ) (f : Fault) → files_of bs ≡ files_of as ++ a ∷ xs → AreSound files bs → BreaksAt files a f → ⊥
+all_sound : (files : List FileData) (us bs : List BindingData) (a : ℕ) (xs : List ℕ) (f : Fault) → files_of bs ≡ files_of us ++ a ∷ xs → AreSound files bs → BreaksAt files a f → ⊥
 all_sound files [] [] a xs f e p h = cc
-all_sound files (c ∷ as) [] a xs f e p h = cc
+all_sound files (c ∷ us) [] a xs f e p h = cc
 all_sound files [] (b ∷ bs) a xs f e p h = sound_breaks files b.file b.levels f p.0 (subst (λ k. BreaksAt files k f) (sym (first_of b.file a (files_of bs) xs e)) h)
-all_sound files (c ∷ as) (b ∷ bs) a xs f e p h = all_sound files as bs a xs f (others_of b.file c.file (files_of bs) (files_of as ++ a ∷ xs) e) p.1 h
+all_sound files (c ∷ us) (b ∷ bs) a xs f e p h = all_sound files us bs a xs f (others_of b.file c.file (files_of bs) (files_of us ++ a ∷ xs) e) p.1 h
 
 broken_sound : (files : List FileData) (ks : List ℕ) (f : Fault) (bs : List BindingData) → IsFirstBroken files ks f → files_of bs ≡ ks → AreSound files bs → ⊥
 broken_sound files ks f bs h e p = all_sound files h.before bs h.broken h.after f (e ∙ h.parts) p h.breaks
 
 -- ---- the fault of a load
 
-same_twins : (files : List File) (compats : List (List ℕ)) (as bs : List BindingData) → files_of as ≡ matching compats files → files_of bs ≡ matching compats files
-    → AreSound (read_files files) as → AreSound (read_files files) bs → twin_fault files as ≡ twin_fault files bs
-same_twins files compats as bs e d p q = ap (twin_fault files) (same_sound (read_files files) as bs (e ∙ sym d) p q)
+same_twins : (files : List File) (compats : List (List ℕ)) (us bs : List BindingData) → files_of us ≡ matching compats files → files_of bs ≡ matching compats files
+    → AreSound (read_files files) us → AreSound (read_files files) bs → twin_fault files us ≡ twin_fault files bs
+same_twins files compats us bs e d p q = ap (twin_fault files) (same_sound (read_files files) us bs (e ∙ sym d) p q)
 
 abbrev IsLater : List File → List (List ℕ) → Fault → Type 0
 IsLater files compats f = IsFirstBroken (read_files files) (matching compats files) f ⊎ IsFirstTwin files compats f

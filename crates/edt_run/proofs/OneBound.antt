@@ -42,7 +42,7 @@ use Rattle.edt_run.proofs.OneOrder.{AreAlike, one_order, one_stuck, not_both}
 -- ---- one phase
 
 fault_of : (f g : Fault) → f.rule ≡ g.rule → f.place ≡ g.place → f ≡ g
-fault_of f g a b = cc
+fault_of f g a b = grind (arith, a, b)
 
 one_place : (nodes : List NodeData) (node other : ℕ) (r s : Rule) (f g : Fault) → node ≡ other → IsAt nodes node r f → IsAt nodes other s g → f.place ≡ g.place
 one_place nodes node other r s f g same h k = h.is_place ∙ (ap (λ n. place.Node (path_at nodes n)) same ∙ sym k.is_place)
@@ -107,43 +107,43 @@ answers_length {X = X} ask count xs h =
 
 -- ---- lists of nodes, field by field
 
-head_of : {X : Type 0} (a b : X) (as bs : List X) → ◌≡◌ {A = List X} (a ∷ as) (b ∷ bs) → a ≡ b
-head_of a b as bs e = cc
+head_of : {X : Type 0} (a b : X) (us bs : List X) → ◌≡◌ {A = List X} (a ∷ us) (b ∷ bs) → a ≡ b
+head_of a b us bs e = cc
 
-tail_of : {X : Type 0} (a b : X) (as bs : List X) → ◌≡◌ {A = List X} (a ∷ as) (b ∷ bs) → as ≡ bs
-tail_of a b as bs e = cc
+tail_of : {X : Type 0} (a b : X) (us bs : List X) → ◌≡◌ {A = List X} (a ∷ us) (b ∷ bs) → us ≡ bs
+tail_of a b us bs e = cc
 
 some_inner : {X : Type 0} (x y : X) → ◌≡◌ {A = Option X} (Some x) (Some y) → x ≡ y
 some_inner x y e = cc
 
 -- what is the same at each place is the same in all, and the other way round
-map_of : {X Y : Type 0} (f : X → Y) (as bs : List X) → length as ≡ length bs
-    → ((id : ℕ) (n m : X) → slice_get as id ≡ Some n → slice_get bs id ≡ Some m → f n ≡ f m) → map f as ≡ map f bs
+map_of : {X Y : Type 0} (f : X → Y) (us bs : List X) → length us ≡ length bs
+    → ((id : ℕ) (n m : X) → slice_get us id ≡ Some n → slice_get bs id ≡ Some m → f n ≡ f m) → map f us ≡ map f bs
 map_of f [] [] e h = refl
 map_of f [] (b ∷ bs) e h = absurd (omega (arith, e))
-map_of f (a ∷ as) [] e h = absurd (omega (arith, e))
-map_of f (a ∷ as) (b ∷ bs) e h =
-    let s : length as ≡ length bs = omega (arith, e) in
-    ap (λ z. z ∷ map f as) (h 0 a b refl refl) ∙ ap (λ zs. f b ∷ zs) (map_of f as bs s (λ id. h (suc id)))
+map_of f (a ∷ us) [] e h = absurd (omega (arith, e))
+map_of f (a ∷ us) (b ∷ bs) e h =
+    let s : length us ≡ length bs = omega (arith, e) in
+    ap (λ z. z ∷ map f us) (h 0 a b refl refl) ∙ ap (λ zs. f b ∷ zs) (map_of f us bs s (λ id. h (suc id)))
 
-of_map : {X Y : Type 0} (f : X → Y) (as bs : List X) → map f as ≡ map f bs → (id : ℕ) (n m : X) → slice_get as id ≡ Some n → slice_get bs id ≡ Some m → f n ≡ f m
-of_map f as bs e id n m p q = some_inner (f n) (f m)
-    (sym (ap (option_map f) p) ∙ (sym (slice_get-map f as id) ∙ (ap (λ l. slice_get l id) e ∙ (slice_get-map f bs id ∙ ap (option_map f) q))))
+of_map : {X Y : Type 0} (f : X → Y) (us bs : List X) → map f us ≡ map f bs → (id : ℕ) (n m : X) → slice_get us id ≡ Some n → slice_get bs id ≡ Some m → f n ≡ f m
+of_map f us bs e id n m p q = some_inner (f n) (f m)
+    (sym (ap (option_map f) p) ∙ (sym (slice_get-map f us id) ∙ (ap (λ l. slice_get l id) e ∙ (slice_get-map f bs id ∙ ap (option_map f) q))))
 
 node_of : (n m : BoundNodeData) → n.props ≡ m.props → n.regs ≡ m.regs → n.ranges ≡ m.ranges → n.irqs ≡ m.irqs → n.needs ≡ m.needs → n.supports ≡ m.supports
     → n.ord ≡ m.ord → n.bus ≡ m.bus → n.buses ≡ m.buses → n ≡ m
-node_of n m a b c d e f g h i = cc
+node_of n m a b c d e f g h i = grind (arith, a, b, c, d, e, f, g, h, i)
 
 -- what the nodes of two lists have, one field after the other
-record HaveSame (as bs : List BoundNodeData) : Type 0 where
-  props : map (λ (n : BoundNodeData). n.props) as ≡ map (λ (n : BoundNodeData). n.props) bs
-  addresses : map addresses_in as ≡ map addresses_in bs
-  irqs : map (λ (n : BoundNodeData). n.irqs) as ≡ map (λ (n : BoundNodeData). n.irqs) bs
-  bus : map (λ (n : BoundNodeData). n.bus) as ≡ map (λ (n : BoundNodeData). n.bus) bs
-  buses : map (λ (n : BoundNodeData). n.buses) as ≡ map (λ (n : BoundNodeData). n.buses) bs
-  needs : map needs_in as ≡ map needs_in bs
-  supports : map (λ (n : BoundNodeData). n.supports) as ≡ map (λ (n : BoundNodeData). n.supports) bs
-  ord : map (λ (n : BoundNodeData). n.ord) as ≡ map (λ (n : BoundNodeData). n.ord) bs
+record HaveSame (us bs : List BoundNodeData) : Type 0 where
+  props : map (λ (n : BoundNodeData). n.props) us ≡ map (λ (n : BoundNodeData). n.props) bs
+  addresses : map addresses_in us ≡ map addresses_in bs
+  irqs : map (λ (n : BoundNodeData). n.irqs) us ≡ map (λ (n : BoundNodeData). n.irqs) bs
+  bus : map (λ (n : BoundNodeData). n.bus) us ≡ map (λ (n : BoundNodeData). n.bus) bs
+  buses : map (λ (n : BoundNodeData). n.buses) us ≡ map (λ (n : BoundNodeData). n.buses) bs
+  needs : map needs_in us ≡ map needs_in bs
+  supports : map (λ (n : BoundNodeData). n.supports) us ≡ map (λ (n : BoundNodeData). n.supports) bs
+  ord : map (λ (n : BoundNodeData). n.ord) us ≡ map (λ (n : BoundNodeData). n.ord) bs
 
 regs_of : (x y : AddressData) → x ≡ y → x.regs ≡ y.regs
 regs_of x y e = ap (λ (a : AddressData). a.regs) e
@@ -151,8 +151,8 @@ regs_of x y e = ap (λ (a : AddressData). a.regs) e
 ranges_of : (x y : AddressData) → x ≡ y → x.ranges ≡ y.ranges
 ranges_of x y e = ap (λ (a : AddressData). a.ranges) e
 
-tails : (a b : BoundNodeData) (as bs : List BoundNodeData) → HaveSame (a ∷ as) (b ∷ bs) → HaveSame as bs
-tails a b as bs h = record {
+tails : (a b : BoundNodeData) (us bs : List BoundNodeData) → HaveSame (a ∷ us) (b ∷ bs) → HaveSame us bs
+tails a b us bs h = record {
   props = tail_of _ _ _ _ h.props;
   addresses = tail_of _ _ _ _ h.addresses;
   irqs = tail_of _ _ _ _ h.irqs;
@@ -163,17 +163,17 @@ tails a b as bs h = record {
   ord = tail_of _ _ _ _ h.ord;
 }
 
-heads : (a b : BoundNodeData) (as bs : List BoundNodeData) → HaveSame (a ∷ as) (b ∷ bs) → a ≡ b
-heads a b as bs h =
+heads : (a b : BoundNodeData) (us bs : List BoundNodeData) → HaveSame (a ∷ us) (b ∷ bs) → a ≡ b
+heads a b us bs h =
     let at : addresses_in a ≡ addresses_in b = head_of _ _ _ _ h.addresses in
     node_of a b (head_of _ _ _ _ h.props) (regs_of (addresses_in a) (addresses_in b) at) (ranges_of (addresses_in a) (addresses_in b) at) (head_of _ _ _ _ h.irqs)
     (head_of _ _ _ _ h.needs) (head_of _ _ _ _ h.supports) (head_of _ _ _ _ h.ord) (head_of _ _ _ _ h.bus) (head_of _ _ _ _ h.buses)
 
-same_nodes : (as bs : List BoundNodeData) → HaveSame as bs → as ≡ bs
+same_nodes : (us bs : List BoundNodeData) → HaveSame us bs → us ≡ bs
 same_nodes [] [] h = refl
 same_nodes [] (b ∷ bs) h = let e = h.needs in cc
-same_nodes (a ∷ as) [] h = let e = h.needs in cc
-same_nodes (a ∷ as) (b ∷ bs) h = ap (λ z. z ∷ as) (heads a b as bs h) ∙ ap (λ zs. b ∷ zs) (same_nodes as bs (tails a b as bs h))
+same_nodes (a ∷ us) [] h = let e = h.needs in cc
+same_nodes (a ∷ us) (b ∷ bs) h = ap (λ z. z ∷ us) (heads a b us bs h) ∙ ap (λ zs. b ∷ zs) (same_nodes us bs (tails a b us bs h))
 
 -- ---- what the nodes require
 
@@ -186,57 +186,57 @@ requires : (nodes : List NodeData) (n m : BoundNodeData) (id other : ℕ) → n.
 requires nodes n m id other p i h = record { refers = refers nodes n m id other p i h.refers; other_than = h.other_than }
 
 module _ (t : TreeData) (lib : LibData) (ask : Questions) where
-  length_of : (as : List BoundNodeData) → AreBoundNodes t lib ask as → length as ≡ length t.nodes
-  length_of as h = sym (length-map as (λ (n : BoundNodeData). n.irqs)) ∙ answers_length ask.irqs (length t.nodes) (map (λ (n : BoundNodeData). n.irqs) as) h.irqs
+  length_of : (us : List BoundNodeData) → AreBoundNodes t lib ask us → length us ≡ length t.nodes
+  length_of us h = sym (length-map us (λ (n : BoundNodeData). n.irqs)) ∙ answers_length ask.irqs (length t.nodes) (map (λ (n : BoundNodeData). n.irqs) us) h.irqs
 
-  lengths : (as bs : List BoundNodeData) → AreBoundNodes t lib ask as → AreBoundNodes t lib ask bs → length as ≡ length bs
-  lengths as bs h k = length_of as h ∙ sym (length_of bs k)
+  lengths : (us bs : List BoundNodeData) → AreBoundNodes t lib ask us → AreBoundNodes t lib ask bs → length us ≡ length bs
+  lengths us bs h k = length_of us h ∙ sym (length_of bs k)
 
-  same_props : (as bs : List BoundNodeData) → AreBoundNodes t lib ask as → AreBoundNodes t lib ask bs → (id : ℕ) (n m : BoundNodeData) → slice_get as id ≡ Some n → slice_get bs id ≡ Some m → n.props ≡ m.props
-  same_props as bs h k = of_map (λ (n : BoundNodeData). n.props) as bs (one_answers ask.entries (length t.nodes) _ _ h.props k.props)
+  same_props : (us bs : List BoundNodeData) → AreBoundNodes t lib ask us → AreBoundNodes t lib ask bs → (id : ℕ) (n m : BoundNodeData) → slice_get us id ≡ Some n → slice_get bs id ≡ Some m → n.props ≡ m.props
+  same_props us bs h k = of_map (λ (n : BoundNodeData). n.props) us bs (one_answers ask.entries (length t.nodes) _ _ h.props k.props)
 
-  same_irqs : (as bs : List BoundNodeData) → AreBoundNodes t lib ask as → AreBoundNodes t lib ask bs → (id : ℕ) (n m : BoundNodeData) → slice_get as id ≡ Some n → slice_get bs id ≡ Some m → n.irqs ≡ m.irqs
-  same_irqs as bs h k = of_map (λ (n : BoundNodeData). n.irqs) as bs (one_answers ask.irqs (length t.nodes) _ _ h.irqs k.irqs)
+  same_irqs : (us bs : List BoundNodeData) → AreBoundNodes t lib ask us → AreBoundNodes t lib ask bs → (id : ℕ) (n m : BoundNodeData) → slice_get us id ≡ Some n → slice_get bs id ≡ Some m → n.irqs ≡ m.irqs
+  same_irqs us bs h k = of_map (λ (n : BoundNodeData). n.irqs) us bs (one_answers ask.irqs (length t.nodes) _ _ h.irqs k.irqs)
 
-  needs_too : (as bs : List BoundNodeData) → AreBoundNodes t lib ask as → AreBoundNodes t lib ask bs → (id : ℕ) (n m : BoundNodeData) → slice_get as id ≡ Some n → slice_get bs id ≡ Some m
+  needs_too : (us bs : List BoundNodeData) → AreBoundNodes t lib ask us → AreBoundNodes t lib ask bs → (id : ℕ) (n m : BoundNodeData) → slice_get us id ≡ Some n → slice_get bs id ≡ Some m
       → (q : ℕ) → Contains n.needs q → Contains m.needs q
-  needs_too as bs h k id n m a b q c =
-      (k.needs id m b q).1 (requires t.nodes n m id q (same_props as bs h k id n m a b) (same_irqs as bs h k id n m a b) ((h.needs id n a q).0 c))
+  needs_too us bs h k id n m a b q c =
+      (k.needs id m b q).1 (requires t.nodes n m id q (same_props us bs h k id n m a b) (same_irqs us bs h k id n m a b) ((h.needs id n a q).0 c))
 
 -- what a node requires, by its place in the list
-needs_is : (as : List BoundNodeData) (id : ℕ) → required (map needs_in as) id ≡ needs_at as id
+needs_is : (us : List BoundNodeData) (id : ℕ) → required (map needs_in us) id ≡ needs_at us id
 needs_is [] zero = refl
 needs_is [] (suc id) = refl
-needs_is (a ∷ as) zero = refl
-needs_is (a ∷ as) (suc id) = needs_is as id
+needs_is (a ∷ us) zero = refl
+needs_is (a ∷ us) (suc id) = needs_is us id
 
-there_too : (as bs : List BoundNodeData) (id : ℕ) (n : BoundNodeData) → length as ≡ length bs → slice_get as id ≡ Some n → (m : BoundNodeData) × (slice_get bs id ≡ Some m)
-there_too as bs id n e h =
-    let l : id < length as = slice_get_within as id n h in
+there_too : (us bs : List BoundNodeData) (id : ℕ) (n : BoundNodeData) → length us ≡ length bs → slice_get us id ≡ Some n → (m : BoundNodeData) × (slice_get bs id ≡ Some m)
+there_too us bs id n e h =
+    let l : id < length us = slice_get_within us id n h in
     (get_or bs id n, slice_get-get_or bs id n (omega (arith, l, e)))
 
-at_of : (as : List BoundNodeData) (id q : ℕ) → Contains (needs_at as id) q → (n : BoundNodeData) × (slice_get as id ≡ Some n) × Contains n.needs q
-at_of as id q h = by (slice_get as id) refl
+at_of : (us : List BoundNodeData) (id q : ℕ) → Contains (needs_at us id) q → (n : BoundNodeData) × (slice_get us id ≡ Some n) × Contains n.needs q
+at_of us id q h = by (slice_get us id) refl
   where
-    by : (o : Option BoundNodeData) → slice_get as id ≡ o → (n : BoundNodeData) × (slice_get as id ≡ Some n) × Contains n.needs q
+    by : (o : Option BoundNodeData) → slice_get us id ≡ o → (n : BoundNodeData) × (slice_get us id ≡ Some n) × Contains n.needs q
     by None e = absurd (none q (subst (λ o. Contains (option_map_or (λ (n : BoundNodeData). n.needs) o []) q) e h))
     by (Some n) e = (n, e, subst (λ o. Contains (option_map_or (λ (n : BoundNodeData). n.needs) o []) q) e h)
 
-at_from : (as : List BoundNodeData) (id q : ℕ) (n : BoundNodeData) → slice_get as id ≡ Some n → Contains n.needs q → Contains (needs_at as id) q
-at_from as id q n e h = subst (λ o. Contains (option_map_or (λ (n : BoundNodeData). n.needs) o []) q) (sym e) h
+at_from : (us : List BoundNodeData) (id q : ℕ) (n : BoundNodeData) → slice_get us id ≡ Some n → Contains n.needs q → Contains (needs_at us id) q
+at_from us id q n e h = subst (λ o. Contains (option_map_or (λ (n : BoundNodeData). n.needs) o []) q) (sym e) h
 
 module _ (t : TreeData) (lib : LibData) (ask : Questions) where
-  alike_to : (as bs : List BoundNodeData) → AreBoundNodes t lib ask as → AreBoundNodes t lib ask bs → (id q : ℕ) → Contains (required (map needs_in as) id) q → Contains (required (map needs_in bs) id) q
-  alike_to as bs h k id q c =
-      let a = at_of as id q (subst (λ l. Contains l q) (needs_is as id) c) in
-      let b = there_too as bs id a.0 (lengths t lib ask as bs h k) a.1 in
-      subst (λ l. Contains l q) (sym (needs_is bs id)) (at_from bs id q b.0 b.1 (needs_too t lib ask as bs h k id a.0 b.0 a.1 b.1 q a.2))
+  alike_to : (us bs : List BoundNodeData) → AreBoundNodes t lib ask us → AreBoundNodes t lib ask bs → (id q : ℕ) → Contains (required (map needs_in us) id) q → Contains (required (map needs_in bs) id) q
+  alike_to us bs h k id q c =
+      let a = at_of us id q (subst (λ l. Contains l q) (needs_is us id) c) in
+      let b = there_too us bs id a.0 (lengths t lib ask us bs h k) a.1 in
+      subst (λ l. Contains l q) (sym (needs_is bs id)) (at_from bs id q b.0 b.1 (needs_too t lib ask us bs h k id a.0 b.0 a.1 b.1 q a.2))
 
-  alike : (as bs : List BoundNodeData) → AreBoundNodes t lib ask as → AreBoundNodes t lib ask bs → AreAlike (map needs_in as) (map needs_in bs)
-  alike as bs h k = record {
-    as_many = length-map as needs_in ∙ (lengths t lib ask as bs h k ∙ sym (length-map bs needs_in));
-    to = alike_to as bs h k;
-    back = alike_to bs as k h;
+  alike : (us bs : List BoundNodeData) → AreBoundNodes t lib ask us → AreBoundNodes t lib ask bs → AreAlike (map needs_in us) (map needs_in bs)
+  alike us bs h k = record {
+    as_many = length-map us needs_in ∙ (lengths t lib ask us bs h k ∙ sym (length-map bs needs_in));
+    to = alike_to us bs h k;
+    back = alike_to bs us k h;
   }
 
 -- ---- lists in preorder
@@ -274,7 +274,7 @@ insts_of t a b p q k l =
     one_insts t.nodes a.insts b.insts (subst (λ (u : TreeData). AreInstances u.nodes a.insts) p k.insts) (subst (λ (u : TreeData). AreInstances u.nodes b.insts) q l.insts)
 
 bound_of : (a b : BoundData) → a.tree ≡ b.tree → a.nodes ≡ b.nodes → a.order ≡ b.order → a.insts ≡ b.insts → a.doubles ≡ b.doubles → a ≡ b
-bound_of a b p q r s d = cc
+bound_of a b p q r s d = grind (arith, p, q, r, s, d)
 
 record AreSame (a b : BoundData) : Type 0 where
   tree : a.tree ≡ b.tree

@@ -76,13 +76,13 @@ listed_too nodes is js p q c h =
 -- ---- and so are the instances
 
 inst_same : (i j : InstData) → i.compat ≡ j.compat → i.nodes ≡ j.nodes → i.okay ≡ j.okay → i ≡ j
-inst_same i j a b c = cc
+inst_same i j a b c = grind (arith, a, b, c)
 
-first_of : (a b : List ℕ) (as bs : List (List ℕ)) → ◌≡◌ {A = List (List ℕ)} (a ∷ as) (b ∷ bs) → a ≡ b
-first_of a b as bs e = cc
+first_of : (a b : List ℕ) (us bs : List (List ℕ)) → ◌≡◌ {A = List (List ℕ)} (a ∷ us) (b ∷ bs) → a ≡ b
+first_of a b us bs e = cc
 
-others_of : (a b : List ℕ) (as bs : List (List ℕ)) → ◌≡◌ {A = List (List ℕ)} (a ∷ as) (b ∷ bs) → as ≡ bs
-others_of a b as bs e = cc
+others_of : (a b : List ℕ) (us bs : List (List ℕ)) → ◌≡◌ {A = List (List ℕ)} (a ∷ us) (b ∷ bs) → us ≡ bs
+others_of a b us bs e = cc
 
 by_compats : (nodes : List NodeData) (is js : List InstData) → compats_of is ≡ compats_of js → All (IsInst nodes) is → All (IsInst nodes) js → is ≡ js
 by_compats nodes [] [] e p q = refl

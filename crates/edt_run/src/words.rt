@@ -33,12 +33,12 @@ impl Model for Row {
 /// The words after a command: the word behind the option `--bindings`, where that stands, and the
 /// names.
 #[derive(Drop)]
-struct Parted {
+struct Arguments {
     dirs: Option<Text>,
     names: Vec<Text>,
 }
 
-impl Model for Parted {
+impl Model for Arguments {
     ghost use Rattle.edt_run.specs.Job.{PartedData};
 
     ghost Value = { PartedData };
@@ -72,20 +72,20 @@ fn job_for(alloc: Global, cmd: Cmd, words: &[Text]) -> Result<Option<Job>, Alloc
 }
 
 /// The job of a command with options and names.
-fn job_over(alloc: Global, cmd: Cmd, parted: Parted) -> Result<Option<Job>, AllocError>
+fn job_over(alloc: Global, cmd: Cmd, parted: Arguments) -> Result<Option<Job>, AllocError>
     ensures { IfOk result (λ j. j ≡ job_over cmd parted) }
 {
-    if !fits(alloc, &row_of(cmd), &parted)? {
+    let dirs = folders_of(alloc, parted.dirs.as_ref())?;
+    if !fits(&row_of(cmd), &parted, dirs.as_slice()) {
         return Ok(None);
     }
-    let dirs = folders_of(alloc, parted.dirs.as_ref())?;
     let names = parted.names;
     Ok(Some(Job { cmd, dirs, names }))
 }
 
 /// Parts words into an option and names. None where the option stands twice, or without a word
 /// behind it.
-fn parted(alloc: Global, words: &[Text]) -> Result<Option<Parted>, AllocError>
+fn parted(alloc: Global, words: &[Text]) -> Result<Option<Arguments>, AllocError>
     ensures { IfOk result (λ p. p ≡ parted words.now) }
 {
     let mut dirs = None;
@@ -106,7 +106,7 @@ fn parted(alloc: Global, words: &[Text]) -> Result<Option<Parted>, AllocError>
         dirs = Some(value.copy(alloc)?);
         rest = after;
     }
-    Ok(Some(Parted { dirs, names }))
+    Ok(Some(Arguments { dirs, names }))
 }
 
 /// The command of a word.
@@ -139,15 +139,17 @@ fn row_of(cmd: Cmd) -> Row
     }
 }
 
-/// Whether the words after a command are those that its row tells.
-fn fits(alloc: Global, row: &Row, parted: &Parted) -> Result<bool, AllocError>
-    ensures { IfOk result (λ b. b ≡ fits row.now parted.now) }
+/// Whether the words after a command are those that its row tells; `dirs` are the folders that they
+/// name.
+fn fits(row: &Row, parted: &Arguments, dirs: &[Text]) -> bool
+    requires { dirs.now ≡ folders_of parted.now.dirs }
+    ensures { result ≡ fits row.now parted.now }
 {
     let names = parted.names.as_slice();
-    if !(row.takes(names.len()) && are_names(names) && has_input_once(names)) {
-        return Ok(false);
-    }
-    may_stand(alloc, row.bindings, parted.dirs.as_ref())
+    row.takes(names.len())
+        && are_names(names)
+        && has_input_once(names)
+        && may_stand(row.bindings, parted.dirs.as_ref(), dirs)
 }
 
 impl Row {
@@ -159,53 +161,65 @@ impl Row {
     }
 }
 
-/// Whether these folders may stand where a command takes bindings or doesn't.
-fn may_stand(alloc: Global, takes: bool, dirs: Option<&Text>) -> Result<bool, AllocError>
-    ensures { IfOk result (λ b. b ≡ may_stand takes (option_map (λ t. t.now) dirs.entry)) }
+/// Whether the option may stand where a command takes bindings or doesn't.
+fn may_stand(takes: bool, word: Option<&Text>, dirs: &[Text]) -> bool
+    requires { dirs.now ≡ folders_of (option_map (λ t. t.now) word.entry) }
+    ensures { result ≡ may_stand takes (option_map (λ t. t.now) word.entry) }
 {
-    match dirs {
-        None => Ok(true),
-        Some(word) => Ok(takes && are_folders(alloc, word)?),
+    match word {
+        None => true,
+        Some(word) => takes && are_folders(word, dirs),
     }
 }
 
-/// Whether a word names folders.
-fn are_folders(alloc: Global, word: &Text) -> Result<bool, AllocError>
-    ensures { IfOk result (λ b. b ≡ are_folders word.now) }
+/// Whether a word names folders: these are the names that it joins.
+fn are_folders(word: &Text, dirs: &[Text]) -> bool
+    requires { dirs.now ≡ folders word.now }
+    ensures { result ≡ are_folders word.now }
 {
-    if begins_with_dash(word) {
-        return Ok(false);
-    }
-    let folders = folders(alloc, word.as_str())?;
-    Ok(folders.len() <= MOST_FOLDERS && are_named(folders.as_slice()))
+    !begins_with_dash(word) && dirs.len() <= MOST_FOLDERS && are_named(dirs)
 }
 
 /// Whether no folder's name is empty.
-fn are_named(folders: &[&str]) -> bool
-    ensures { result ≡ list_all is_folder (map (λ b. b.now) folders.now) }
+fn are_named(dirs: &[Text]) -> bool
+    ensures { result ≡ list_all is_folder dirs.now }
 {
-    folders.iter().all(|folder| !folder.is_empty())
+    dirs.iter().all(|dir| is_folder(dir))
 }
 
-/// The names that a word joins by colons.
-fn folders<'a>(alloc: Global, word: &'a str) -> Result<Vec<&'a str>, AllocError>
-    ensures { IfOk result (λ v. map (λ b. b.now) v.items ≡ folders word.now) }
+/// Whether a folder's name isn't empty.
+fn is_folder(dir: &Text) -> bool
+    ensures { result ≡ is_folder dir.now }
 {
-    word.split(':').collect(alloc)
+    !dir.as_str().is_empty()
 }
 
 /// The folders of the bindings; none without the option.
-fn folders_of(alloc: Global, dirs: Option<&Text>) -> Result<Vec<Text>, AllocError>
-    ensures { IfOk result (λ v. v.items ≡ folders_of (option_map (λ t. t.now) dirs.entry)) }
+fn folders_of(alloc: Global, word: Option<&Text>) -> Result<Vec<Text>, AllocError>
+    ensures { IfOk result (λ v. v.items ≡ folders_of (option_map (λ t. t.now) word.entry)) }
 {
-    let mut all = Vec::new(alloc);
-    let Some(word) = dirs else {
-        return Ok(all);
-    };
-    for folder in folders(alloc, word.as_str())?.as_slice() {
-        all.push(Text::new(String::from_str(alloc, *folder)?))?;
+    match word {
+        None => Ok(Vec::new(alloc)),
+        Some(word) => folders(alloc, word),
     }
-    Ok(all)
+}
+
+/// The names that a word joins by colons.
+fn folders(alloc: Global, word: &Text) -> Result<Vec<Text>, AllocError>
+    ensures { IfOk result (λ v. v.items ≡ folders word.now) }
+{
+    let mut dirs = Vec::new(alloc);
+    for piece in pieces(alloc, word.as_str())?.as_slice() {
+        dirs.push(Text::new(String::from_str(alloc, *piece)?))?;
+    }
+    Ok(dirs)
+}
+
+/// What stands between the colons of a text.
+fn pieces<'a>(alloc: Global, text: &'a str) -> Result<Vec<&'a str>, AllocError>
+    ensures { IfOk result (λ v. map (λ b. b.now) v.items ≡ folders text.now) }
+{
+    text.split(':').collect(alloc)
 }
 
 /// Whether each word can name a source.
