@@ -50,10 +50,17 @@ returns-in-Memory g c =
 pub returns-in-Ok : goal.returns-in-Ok
 returns-in-Ok g c =
     let named : Some c.in-Ok-Some.job ≡ job_of c.args.words.now = rw c.in-Ok-Some.field-0-is at c.in-Ok-Some.ensures in
+    ran_done _ (printed c.in-Ok-Source.tree) (subst (λ o. IsWanted (g.F.Files.seen c.args.files.now) (g.F.Files.seen c.decide.new.files) o (done (printed c.in-Ok-Source.tree))) named
+    (rw c.in-Ok-Source.field-0-is at c.in-Ok-Source.ensures.wanted))
+    (is_job _ _ named) (c.decide.ensures.held, c.decide.ensures.count) c.in-Ok.ensures c.say-in-Ok.ensures
+
+pub returns-in-Ok-emit : goal.returns-in-Ok-emit
+returns-in-Ok-emit g c =
+    let named : Some c.in-Ok-Some.job ≡ job_of c.args.words.now = rw c.in-Ok-Some.field-0-is at c.in-Ok-Some.ensures in
     ran_done _ (header (forest_of c.in-Ok-Header.nodes.items))
     (subst (λ o. IsWanted (g.F.Files.seen c.args.files.now) (g.F.Files.seen c.decide.new.files) o (done (header (forest_of c.in-Ok-Header.nodes.items)))) named
     (rw c.in-Ok-Header.field-0-is at c.in-Ok-Header.ensures.wanted))
-    (is_job _ _ named) (c.decide.ensures.held, c.decide.ensures.count) (rw c.as_slice-in-Ok-Header.ensures.value at c.in-Ok.ensures) c.say-in-Ok.ensures
+    (is_job _ _ named) (c.decide.ensures.held, c.decide.ensures.count) (rw c.as_slice-in-Ok-Header.ensures.value at c.in-Ok-emit.ensures) c.say-in-Ok-emit.ensures
 
 pub returns : goal.returns
 returns g c =
