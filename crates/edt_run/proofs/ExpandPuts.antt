@@ -1,6 +1,9 @@
 -- The output of a text on its way to a sink, line by line.
-use Rattle.std.proofs.Common.{◌≡◌, ◌∙◌, ◌+◌, ◌≤◌, ◌++◌, ℕ, Bool, true, false, IsTrue, List, [], ◌∷◌, Option, Some, None, codes, length, refl, sym, ap, subst, append_assoc, append-nil, arith, length-append, string_bytes}
+use Rattle.std.proofs.Common.{◌≡◌, ◌∙◌, ◌+◌, ◌<◌, ◌≤◌, ◌++◌, take, drop, get_or, ℕ, Bool, true, false, IsTrue, List, [], ◌∷◌, Option, Some, None, codes, length, refl, sym, ap, subst, append_assoc, append-nil, arith, length-append, string_bytes}
+use Rattle.std.specs.List.{flat_map}
 use Rattle.std.proofs.lemmas.Bool.{false≢true}
+use Rattle.std.proofs.lemmas.List.{take-append-drop, take_more, drop_more}
+use Rattle.std.proofs.lemmas.List.Concat.{flat_map-append}
 use Rattle.edt_base.specs.declared.fault.Rule.{Rule}
 use Rattle.edt_base.specs.Outside.{SinkSeen, Wrote}
 use Rattle.edt_base.specs.Put.{Put}
@@ -17,6 +20,30 @@ use Rattle.edt_run.specs.Answer.{Answer}
 use Rattle.edt_run.specs.ExpandAnswer.{Breach, Adds, OutputFrom, from_start, ended, IsTextAnswer}
 use Rattle.edt_run.specs.ExpandSteps.{Goes, IsPutNext, IsPut, IsEnded, IsToldBehind}
 use Rattle.edt_run.proofs.ExpandLaws.{has_output, adds_from}
+
+-- ---- tokens
+
+-- one piece more was put
+pub one_more : {X : Type 0} (f : X → List ℕ) (xs : List X) (i : ℕ) (x : X) (a b c : SinkSeen) (first second third : List ℕ)
+    → i < length xs → x ≡ get_or xs i x → Put a b first second (flat_map f (take i xs)) true → Put b c second third (f x) true
+    → Put a c first third (flat_map f (take (i + 1) xs)) true
+one_more f xs i x a b c first second third within at before after =
+    let whole : flat_map f (take (i + 1) xs) ≡ flat_map f (take i xs) ++ f x =
+    ap (flat_map f) (take_more xs i x within) ∙ (flat_map-append f (take i xs) (get_or xs i x ∷ [])
+    ∙ ap (λ t. flat_map f (take i xs) ++ t) (append-nil (f (get_or xs i x)) ∙ ap f (sym at))) in
+    subst (λ t. Put a c first third t true) (sym whole) (put_then a b c first second third _ _ true before after)
+
+-- one piece failed, and with it all of them
+pub one_fails : {X : Type 0} (f : X → List ℕ) (xs : List X) (i : ℕ) (x : X) (a b c : SinkSeen) (first second third : List ℕ)
+    → i < length xs → x ≡ get_or xs i x → Put a b first second (flat_map f (take i xs)) true → Put b c second third (f x) false
+    → Put a c first third (flat_map f xs) false
+one_fails f xs i x a b c first second third within at before after =
+    let rest : flat_map f (drop i xs) ≡ f x ++ flat_map f (drop (i + 1) xs) =
+    ap (flat_map f) (drop_more xs i x within) ∙ ap (λ y. f y ++ flat_map f (drop (i + 1) xs)) (sym at) in
+    let whole : flat_map f xs ≡ flat_map f (take i xs) ++ (f x ++ flat_map f (drop (i + 1) xs)) =
+    ap (flat_map f) (sym (take-append-drop i xs)) ∙ (flat_map-append f (take i xs) (drop i xs) ∙ ap (λ t. flat_map f (take i xs) ++ t) rest) in
+    subst (λ t. Put a c first third t false) (sym whole)
+    (put_then a b c first second third _ _ false before (put_stops b c second third third _ _ after))
 
 -- ---- the lines
 

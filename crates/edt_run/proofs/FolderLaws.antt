@@ -8,7 +8,7 @@ use Rattle.std.proofs.Math.ListN.{replicate}
 use Rattle.std.proofs.lemmas.Bool.Decides.{nat_tests}
 use Rattle.std.proofs.lemmas.Grind.{common_steps}
 use Rattle.std.proofs.lemmas.List.{length-replicate, length-append, length-map, map-append, take-append-drop, take_more}
-use Rattle.std.proofs.lemmas.List.Elements.{All-contains, Contains-append_cases}
+use Rattle.std.proofs.lemmas.List.Elements.{All-contains, Contains-append_cases, Contains-append_right}
 use Rattle.std.proofs.lemmas.List.Sorted.{Contains-permutation, IsPermutation-sym}
 use Rattle.edt_base.specs.declared.fault.Fault.{Fault}
 use Rattle.edt_base.specs.declared.fault.Rule.{Rule}
@@ -22,9 +22,10 @@ use Rattle.edt_run.specs.Job.{JobData}
 use Rattle.edt_run.specs.Promises.{IsListed, IsListedByOne, IsReadOf}
 use Rattle.edt_run.specs.Reading.{AreAbove, AreFilesRead, AreListed, AreOver, ArePast, AreRead, AreTogether, Held, IsAbove, IsFileStop, IsListAmong, IsListStop, IsPast, IsRead, IsReadAmong, IsReadStop, IsSourceStop, IsStopBy, ReadData}
 use Rattle.edt_run.proofs.Listed.{as_many_listed, is_listed}
+use Rattle.edt_run.proofs.OneList.{here}
 use Rattle.edt_run.proofs.SourceLaws.{IsLeft, Something, above_at, neither, first_so, past_so, read_all, second_so, something, stop_later, stop_map}
 
-File : Type 0
+abbrev pub File : Type 0
 File = List ℕ × List ℕ
 
 -- ---- folders, one after another
@@ -118,18 +119,18 @@ listed_above held dirs at left names dir within here more l =
 
 -- ---- binding files, one after another
 
--- the files before a place were read, and so many bytes are left
-pub record IsReading (held : Held) (names : List (List ℕ)) (at left : ℕ) (files : List File) : Type 0 where
-  pub named : names_of files ≡ take at names
-  pub told : IfSome held (λ h. files ≡ map (with_content h) (take at names))
+-- the names but these were read, and so many bytes are left
+pub record IsReading (held : Held) (names rest : List (List ℕ)) (left : ℕ) (files : List File) : Type 0 where
+  pub named : names_of files ++ rest ≡ names
+  pub told : IfSome held (λ h. files ≡ map (with_content h) (names_of files))
   pub left_is : (others : List File) → first_over files_limit (files ++ others) ≡ first_over left others
 
-pub reads_none : (held : Held) (names : List (List ℕ)) → IsReading held names 0 files_limit []
-reads_none held names = record { named = refl; told = told held; left_is = λ others. refl }
+pub reads_none : (held : Held) (names rest : List (List ℕ)) → rest ≡ names → IsReading held names rest files_limit []
+reads_none held names rest e = record { named = e; told = told held; left_is = λ others. refl }
   where
-    told : (h : Held) → IfSome h (λ files. [] ≡ map (with_content files) (take 0 names))
+    told : (h : Held) → IfSome h (λ f. [] ≡ map (with_content f) (names_of []))
     told None = tt
-    told (Some files) = refl
+    told (Some f) = refl
 
 next_over : (left : ℕ) (name bytes : List ℕ) (others : List File) → length bytes ≤ min file_limit left
     → first_over left ((name, bytes) ∷ others) ≡ first_over (left - length bytes) others
@@ -142,35 +143,40 @@ over_here left name bytes others h = grind (arith, h, nat_tests)
 names_append : (xs ys : List File) → names_of (xs ++ ys) ≡ names_of xs ++ names_of ys
 names_append xs ys = map-append (λ (f : File). f.0) xs ys
 
-pub read_step : (held : Held) (names : List (List ℕ)) (at left : ℕ) (files new : List File) (name bytes : List ℕ) → take (suc at) names ≡ take at names ++ name ∷ []
-    → length bytes ≤ min file_limit left → IfSome held (λ h. bytes ≡ content h name) → new ≡ files ++ (name, bytes) ∷ [] → IsReading held names at left files
-    → IsReading held names (suc at) (left - length bytes) new
-read_step held names at left files new name bytes taken few is added r = subst (IsReading held names (suc at) (left - length bytes)) (sym added) (record {
-  named = names_append files ((name, bytes) ∷ []) ∙ (ap (λ x. x ++ name ∷ []) r.named ∙ sym taken);
+pub read_step : (held : Held) (names rest others : List (List ℕ)) (left : ℕ) (files new : List File) (name bytes : List ℕ) → rest ≡ name ∷ others
+    → length bytes ≤ min file_limit left → IfSome held (λ h. bytes ≡ content h name) → new ≡ files ++ (name, bytes) ∷ [] → IsReading held names rest left files
+    → IsReading held names others (left - length bytes) new
+read_step held names rest others left files new name bytes next few is added r = subst (IsReading held names others (left - length bytes)) (sym added) (record {
+  named = ap (λ x. x ++ others) (names_append files ((name, bytes) ∷ [])) ∙ (append_assoc (names_of files) (name ∷ []) others
+      ∙ (ap (λ x. names_of files ++ x) (sym next) ∙ r.named));
   told = told held is r.told;
-  left_is = λ others. ap (first_over files_limit) (append_assoc files ((name, bytes) ∷ []) others)
-      ∙ (r.left_is ((name, bytes) ∷ others) ∙ next_over left name bytes others few);
+  left_is = λ more. ap (first_over files_limit) (append_assoc files ((name, bytes) ∷ []) more)
+      ∙ (r.left_is ((name, bytes) ∷ more) ∙ next_over left name bytes more few);
 })
   where
-    told : (h : Held) → IfSome h (λ f. bytes ≡ content f name) → IfSome h (λ f. files ≡ map (with_content f) (take at names))
-        → IfSome h (λ f. files ++ (name, bytes) ∷ [] ≡ map (with_content f) (take (suc at) names))
+    told : (h : Held) → IfSome h (λ f. bytes ≡ content f name) → IfSome h (λ f. files ≡ map (with_content f) (names_of files))
+        → IfSome h (λ f. files ++ (name, bytes) ∷ [] ≡ map (with_content f) (names_of (files ++ (name, bytes) ∷ [])))
     told None b t = tt
     told (Some f) b t =
-        ap (λ x. x ++ (name, bytes) ∷ []) t ∙ (ap (λ x. map (with_content f) (take at names) ++ (name, x) ∷ []) b
-        ∙ (sym (map-append (with_content f) (take at names) (name ∷ [])) ∙ ap (map (with_content f)) (sym taken)))
+        ap (λ x. x ++ (name, bytes) ∷ []) t ∙ (ap (λ x. map (with_content f) (names_of files) ++ (name, x) ∷ []) b
+        ∙ (sym (map-append (with_content f) (names_of files) (name ∷ [])) ∙ ap (map (with_content f)) (sym (names_append files ((name, bytes) ∷ [])))))
 
-pub all_read : (held : Held) (names : List (List ℕ)) (at left : ℕ) (files : List File) → at ≡ length names → IsReading held names at left files → AreFilesRead held names files
-all_read held names at left files all r = record {
-  are_files = record { named = r.named ∙ take_all; told = told held r.told };
+pub all_read : (held : Held) (names rest : List (List ℕ)) (left : ℕ) (files : List File) → rest ≡ [] → IsReading held names rest left files → AreFilesRead held names files
+all_read held names rest left files none r = record {
+  are_files = record { named = all; told = told held r.told };
   within = ap (first_over files_limit) (sym (append-nil files)) ∙ r.left_is [];
 }
   where
-    take_all : take at names ≡ names
-    take_all = grind (arith, common_steps, all)
+    all : names_of files ≡ names
+    all = sym (append-nil (names_of files)) ∙ (ap (λ x. names_of files ++ x) (sym none) ∙ r.named)
 
-    told : (h : Held) → IfSome h (λ f. files ≡ map (with_content f) (take at names)) → IfSome h (λ f. files ≡ map (with_content f) names)
+    told : (h : Held) → IfSome h (λ f. files ≡ map (with_content f) (names_of files)) → IfSome h (λ f. files ≡ map (with_content f) names)
     told None t = tt
-    told (Some f) t = t ∙ ap (map (with_content f)) take_all
+    told (Some f) t = t ∙ ap (map (with_content f)) all
+
+pub in_names : (held : Held) (names rest others : List (List ℕ)) (left : ℕ) (files : List File) (name : List ℕ) → rest ≡ name ∷ others → IsReading held names rest left files → Contains names name
+in_names held names rest others left files name next r = subst (λ l. Contains l name) r.named
+    (Contains-append_right (names_of files) rest name (subst (λ l. Contains l name) (sym next) (here name others)))
 
 -- a name without bytes
 abbrev bare : List ℕ → File
@@ -193,30 +199,29 @@ some_files : (held : Held) (names : List (List ℕ)) → SomeFiles held names
 some_files None names = record { files = map bare names; are_files = record { named = bare_names names; told = tt } }
 some_files (Some h) names = record { files = map (with_content h) names; are_files = record { named = content_names h names; told = refl } }
 
-pub read_over : (held : Held) (names : List (List ℕ)) (at left : ℕ) (files : List File) (name : List ℕ) → drop at names ≡ name ∷ drop (suc at) names
-    → IfSome held (λ h. min file_limit left < length (content h name)) → IsReading held names at left files → AreOver held names (too_long (file_rule left) name)
-read_over None names at left files name here more r =
+pub read_over : (held : Held) (names rest others : List (List ℕ)) (left : ℕ) (files : List File) (name : List ℕ) → rest ≡ name ∷ others
+    → IfSome held (λ h. min file_limit left < length (content h name)) → IsReading held names rest left files → AreOver held names (too_long (file_rule left) name)
+read_over None names rest others left files name next more r =
     let first : List ℕ = replicate (suc (min file_limit left)) 0 in
-    let rest : List File = map bare (drop (suc at) names) in
+    let behind : List File = map bare others in
     let long : length first ≡ suc (min file_limit left) = length-replicate {A = ℕ} (suc (min file_limit left)) 0 in
     record {
-      files = files ++ (name, first) ∷ rest;
+      files = files ++ (name, first) ∷ behind;
       are_files = record {
-        named = names_append files ((name, first) ∷ rest) ∙ (ap (λ x. x ++ name ∷ names_of rest) r.named
-            ∙ (ap (λ x. take at names ++ name ∷ x) (bare_names (drop (suc at) names)) ∙ (ap (λ x. take at names ++ x) (sym here) ∙ take-append-drop at names)));
+        named = names_append files ((name, first) ∷ behind) ∙ (ap (λ x. names_of files ++ name ∷ x) (bare_names others)
+            ∙ (ap (λ x. names_of files ++ x) (sym next) ∙ r.named));
         told = tt;
       };
-      over = r.left_is ((name, first) ∷ rest) ∙ over_here left name first rest (omega (arith, long));
+      over = r.left_is ((name, first) ∷ behind) ∙ over_here left name first behind (omega (arith, long));
     }
-read_over (Some h) names at left files name here more r =
-    let rest : List File = map (with_content h) (drop (suc at) names) in
-    let whole : files ++ with_content h name ∷ rest ≡ map (with_content h) names = ap (λ x. x ++ with_content h name ∷ rest) r.told
-    ∙ (ap (λ x. map (with_content h) (take at names) ++ map (with_content h) x) (sym here)
-    ∙ (sym (map-append (with_content h) (take at names) (drop at names)) ∙ ap (map (with_content h)) (take-append-drop at names))) in
+read_over (Some h) names rest others left files name next more r =
+    let behind : List File = map (with_content h) others in
+    let whole : files ++ with_content h name ∷ behind ≡ map (with_content h) names = ap (λ x. x ++ with_content h name ∷ behind) r.told
+    ∙ (sym (map-append (with_content h) (names_of files) (name ∷ others)) ∙ ap (map (with_content h)) (ap (λ x. names_of files ++ x) (sym next) ∙ r.named)) in
     record {
-      files = files ++ with_content h name ∷ rest;
+      files = files ++ with_content h name ∷ behind;
       are_files = record { named = ap names_of whole ∙ content_names h names; told = whole };
-      over = r.left_is (with_content h name ∷ rest) ∙ over_here left name (content h name) rest more;
+      over = r.left_is (with_content h name ∷ behind) ∙ over_here left name (content h name) behind more;
     }
 
 -- ---- all of a job

@@ -51,7 +51,7 @@ same_at : (nodes : List NodeData) (node other : ℕ) (r : Rule) (f g : Fault) �
 same_at nodes node other r f g same h k = fault_of f g (h.is_rule ∙ sym k.is_rule) (one_place nodes node other r r f g same h k)
 
 err_ok : {X : Type 0} (r : Result X Rule) (broken : Rule) → r ≡ Err broken → IsOk r → ⊥
-err_ok r broken e h = subst (λ s. IsOk s) e h
+err_ok {X = X} r broken e h = let no : IsOk {T = X} {E = Rule} (Err broken) = subst (λ s. IsOk s) e h in cc
 
 err_same : {X : Type 0} (a b : Rule) → ◌≡◌ {A = Result X Rule} (Err a) (Err b) → a ≡ b
 err_same a b e = cc
@@ -254,7 +254,7 @@ one_ord needs order placing id a b p q = by (cases_order a b)
     before : (i j : ℕ) → i < j → slice_get order i ≡ Some id → slice_get order j ≡ Some id → ⊥
     before i j less x y =
         let in_order : i < length order = slice_get_within order i id x in
-        (placing j id y).ready.left (i, (in_front i j less in_order, index i j less x))
+        (placing j id y).ready.left (i, in_front i j less in_order, index i j less x)
       where
         in_front : (i j : ℕ) → i < j → i < length order → i < length (take j order)
         in_front i j less l = let e = length-take j order in omega (arith, e, less, l)

@@ -37,14 +37,15 @@ IsLeft {X} most names given at left = (others : List (List X)) → first_above m
 -- all were read
 pub read_all : {X : Type 0} (of : List (List ℕ × List ℕ) → List ℕ → List X) (held : Held) (most : ℕ) (names : List (List ℕ)) (given : List (List X)) (at left : ℕ) → at ≡ length names → length given ≡ at
     → IfSome held (λ files. given ≡ map (of files) (take at names)) → IsLeft most names given at left → AreTogether of held most names given
-read_all of held most names given at left all as_many told left_is = record {
+read_all {X = X} of held most names given at left all as_many told left_is = record {
   of_names = record { as_many = as_many ∙ all; told = told_all held told };
-  within = ap (λ s. first_above most names s) (sym (append-nil given)) ∙ (left_is [] ∙ none_left (drop at names));
+  within = ap (λ s. first_above most names s) (sym (append-nil given)) ∙ (left_is [] ∙ none_left (drop at names) [] refl);
 }
   where
-    none_left : (rest : List (List ℕ)) → first_above {X = X} left rest [] ≡ None
-    none_left [] = refl
-    none_left (name ∷ rest) = refl
+    none_left : (rest : List (List ℕ)) (ys : List (List X)) → ys ≡ [] → first_above left rest ys ≡ None
+    none_left [] ys e = refl
+    none_left (name ∷ rest) [] e = refl
+    none_left (name ∷ rest) (y ∷ ys) e = cc
 
     take_all : take at names ≡ names
     take_all = grind (arith, common_steps, all)

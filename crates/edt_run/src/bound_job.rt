@@ -1,7 +1,7 @@
 //! What `gen` and `check` do over their sources and binding files: take the tree that the sources
 //! leave, load its bindings, and bind it.
 
-ghost use Rattle.std.specs.Prelude.{◌≡◌, ◌≤◌, IfOk, length, map};
+ghost use Rattle.std.specs.Prelude.{◌≡◌, ◌≤◌, ◌++◌, IfOk, OnOk, length};
 ghost use Rattle.edt_bound.specs.Loading.{compats_of};
 ghost use Rattle.edt_run.specs.Answer.{names_limit};
 ghost use Rattle.edt_run.specs.GenSteps.{IsBoundOver};
@@ -9,7 +9,7 @@ ghost use Rattle.edt_run.specs.GenSteps.{IsBoundOver};
 use crate::sources::Read;
 use crate::tree_job::{at_root, tree_of};
 use bind_merge::Library;
-use edt_base::{Bound, End, Rule, Text, Tree};
+use edt_base::{Bound, End, NodeRec, Rule, Text, Tree};
 use edt_bound::bind;
 use head_write::measure;
 use std::alloc::{AllocError, Global};
@@ -40,9 +40,21 @@ fn compats_of(alloc: Global, tree: &Tree) -> Result<Vec<Text>, AllocError>
 {
     let mut compats = Vec::new(alloc);
     for node in tree.nodes() {
-        for compat in &node.compats {
-            compats.push(compat.copy(alloc)?)?;
-        }
+        add_compats(alloc, node, &mut compats)?;
     }
     Ok(compats)
+}
+
+/// Adds the compatible strings of a node.
+fn add_compats(
+    alloc: Global,
+    node: &NodeRec,
+    compats: &mut Vec<Text>,
+) -> Result<(), AllocError>
+    ensures { OnOk result (compats.new.items ≡ compats.old.items ++ node.now.compats) }
+{
+    for compat in &node.compats {
+        compats.push(compat.copy(alloc)?)?;
+    }
+    Ok(())
 }

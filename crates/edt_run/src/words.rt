@@ -163,7 +163,7 @@ impl Row {
 
 /// Whether the option may stand where a command takes bindings or doesn't.
 fn may_stand(takes: bool, word: Option<&Text>, dirs: &[Text]) -> bool
-    requires { dirs.now ≡ folders_of (option_map (λ t. t.now) word.entry) }
+    requires { dirs.now ≡ folders_of (option_map (λ t. t.now) word) }
     ensures { result ≡ may_stand takes (option_map (λ t. t.now) word.entry) }
 {
     match word {

@@ -1,5 +1,5 @@
 use Rattle.c_tokens.specs.Shown.{with_space}
-use Rattle.edt_run.proofs.Headers.{one_more, one_fails}
+use Rattle.edt_run.proofs.ExpandPuts.{one_more, one_fails}
 use Rattle.edt_base.proofs.Puts.{not_done, failed}
 use Rattle.edt_run.proofs.expanding.put_all_spaced.Goals as goal
 

@@ -2,8 +2,7 @@ use Rattle.std.proofs.Common.{◌≡◌, None, Some, true, refl, subst, sym, ari
 use Rattle.dts_print.specs.Printed.{printed}
 use Rattle.c_macro.specs.Table.{known_of}
 use Rattle.edt_run.specs.Answer.{done}
-use Rattle.edt_run.specs.Header.{header}
-use Rattle.edt_run.specs.Nodes.{forest_of}
+use Rattle.head_write.specs.Header.{header_text}
 use Rattle.edt_run.specs.Promises.{writes_early}
 use Rattle.edt_run.specs.Job.{job_of}
 use Rattle.edt_run.specs.Steps.{IsWanted}
@@ -57,15 +56,15 @@ returns-in-Ok g c =
 pub returns-in-Ok-emit : goal.returns-in-Ok-emit
 returns-in-Ok-emit g c =
     let named : Some c.in-Ok-Some.job ≡ job_of c.args.words.now = rw c.in-Ok-Some.field-0-is at c.in-Ok-Some.ensures in
-    ran_done _ (header (forest_of c.in-Ok-Header.nodes.items))
-    (subst (λ o. IsWanted (g.F.Files.seen c.args.files.now) (g.F.Files.seen c.decide.new.files) o (done (header (forest_of c.in-Ok-Header.nodes.items)))) named
+    ran_done _ (header_text c.in-Ok-Header.bound)
+    (subst (λ o. IsWanted (g.F.Files.seen c.args.files.now) (g.F.Files.seen c.decide.new.files) o (done (header_text c.in-Ok-Header.bound))) named
     (rw c.in-Ok-Header.field-0-is at c.in-Ok-Header.ensures.wanted))
-    (is_job _ _ named) (c.decide.ensures.held, c.decide.ensures.count) (rw c.as_slice-in-Ok-Header.ensures.value at c.in-Ok-emit.ensures) c.say-in-Ok-emit.ensures
+    (is_job _ _ named) (c.decide.ensures.held, c.decide.ensures.count) c.in-Ok-emit.ensures c.say-in-Ok-emit.ensures
 
 pub returns : goal.returns
 returns g c =
     let named : Some c.in-Ok-Some.job ≡ job_of c.args.words.now = rw c.in-Ok-Some.field-0-is at c.in-Ok-Some.ensures in
-    ran_write_failed _ (done (header (forest_of c.in-Ok-Header.nodes.items)))
-    (subst (λ o. IsWanted (g.F.Files.seen c.args.files.now) (g.F.Files.seen c.decide.new.files) o (done (header (forest_of c.in-Ok-Header.nodes.items)))) named
+    ran_write_failed _ (done (header_text c.in-Ok-Header.bound))
+    (subst (λ o. IsWanted (g.F.Files.seen c.args.files.now) (g.F.Files.seen c.decide.new.files) o (done (header_text c.in-Ok-Header.bound))) named
     (rw c.in-Ok-Header.field-0-is at c.in-Ok-Header.ensures.wanted))
-    (is_job _ _ named) (c.decide.ensures.held, c.decide.ensures.count) (rw c.as_slice-in-Ok-Header.ensures.value at c.in-Err-emit.ensures) c.say-in-Err-emit.ensures
+    (is_job _ _ named) (c.decide.ensures.held, c.decide.ensures.count) c.in-Err-emit.ensures c.say-in-Err-emit.ensures
