@@ -8,6 +8,7 @@ ghost use Rattle.edt_base.specs.Outside.{AreBelow};
 
 use edt_base::{Bytes, Files, ReadEnd, Sink, Text, WriteFailed, is_binding_below};
 use std::alloc::{AllocError, Global};
+use std::fs::Metadata;
 use std::io::{Error, ErrorKind, Read, Write};
 use std::{fs, rt};
 
@@ -35,6 +36,11 @@ fn end_of(error: Error) -> ReadEnd {
     } else {
         ReadEnd::Failed
     }
+}
+
+/// Whether a name ends as those of binding files do.
+fn ends_as_binding(name: &[u8]) -> bool {
+    name.ends_with(b".yaml") || name.ends_with(b".yml")
 }
 
 /// Notes a name where it is that of a binding file.
@@ -84,7 +90,8 @@ impl<R: rt::Files + Input + AllocGlobal + Clone + Drop> RealFiles<R> {
         }
     }
 
-    /// Goes through a folder: notes the folders in it, and the names of its binding files.
+    /// Goes through a folder: notes the folders in it, and the names of its binding files, until
+    /// there are more than `most` names.
     fn list_one(
         &self,
         alloc: Global,
@@ -92,26 +99,102 @@ impl<R: rt::Files + Input + AllocGlobal + Clone + Drop> RealFiles<R> {
         folder: &Folder,
         folders: &mut Vec<Folder>,
         names: &mut Vec<Text>,
+        most: u32,
     ) -> Result<(), ReadEnd>
         requires { AreBelow dir.now names.old.items }
-        ensures { OnOk result (AreBelow dir.now names.new.items) }
+        ensures below { OnOk result (AreBelow dir.now names.new.items) }
+        ensures at_most { OnOk result (vec_len names.new ≤ most) }
     {
         if folder.depth > DEEPEST {
             return Err(ReadEnd::Failed);
         }
-        let entries = fs::read_dir(&self.rt, folder.name.as_str()).map_err(end_of)?;
-        for entry in entries {
-            let entry = entry.map_err(end_of)?;
-            let name = format!(in alloc; "{}/{}", folder.name.as_str(), entry.file_name())?;
-            let name = Text::new(name);
-            if entry.file_type().map_err(end_of)?.is_dir() {
-                let depth = folder.depth + 1;
-                folders.push(Folder { name, depth })?;
-            } else {
-                note_name(dir, name, names)?;
+        // The slash makes the system follow a link to a folder.
+        let path = format!(in alloc; "{}/", folder.name.as_str())?;
+        let mut entries = self.rt.open_dir(path.as_str()).map_err(end_of)?;
+        let mut block = [0u8; 65_536];
+        for _ in 0..u64::MAX {
+            if names.len() > most as usize {
+                return Err(ReadEnd::TooBig);
+            }
+            match entries.read(&mut block) {
+                Ok(0) => return Ok(()),
+                Ok(count) => {
+                    self.note_entries(alloc, dir, folder, &block[..count], folders, names)?;
+                }
+                Err(e) if e.kind() == ErrorKind::Interrupted => {}
+                Err(e) => return Err(end_of(e)),
             }
         }
+        Err(ReadEnd::Failed)
+    }
+
+    /// Notes what stands in a folder: `entries` are the names, each ended by a zero.
+    fn note_entries(
+        &self,
+        alloc: Global,
+        dir: &Text,
+        folder: &Folder,
+        entries: &[u8],
+        folders: &mut Vec<Folder>,
+        names: &mut Vec<Text>,
+    ) -> Result<(), ReadEnd>
+        requires { AreBelow dir.now names.old.items }
+        ensures { OnOk result (AreBelow dir.now names.new.items) }
+    {
+        for name in entries.split(|byte| *byte == 0) {
+            self.note_entry(alloc, dir, folder, name, folders, names)?;
+        }
         Ok(())
+    }
+
+    /// Notes a folder, or the name of a binding file: a regular file, or a link to one. A name that
+    /// isn't UTF-8 matters only where it ends like a binding file's.
+    fn note_entry(
+        &self,
+        alloc: Global,
+        dir: &Text,
+        folder: &Folder,
+        name: &[u8],
+        folders: &mut Vec<Folder>,
+        names: &mut Vec<Text>,
+    ) -> Result<(), ReadEnd>
+        requires { AreBelow dir.now names.old.items }
+        ensures { OnOk result (AreBelow dir.now names.new.items) }
+    {
+        if name.is_empty() || name == b"." || name == b".." {
+            return Ok(());
+        }
+        let Ok(text) = str::from_utf8(name) else {
+            return if ends_as_binding(name) {
+                Err(ReadEnd::Failed)
+            } else {
+                Ok(())
+            };
+        };
+        let path = Text::new(format!(in alloc; "{}/{text}", folder.name.as_str())?);
+        let found = fs::symlink_metadata(&self.rt, path.as_str()).map_err(end_of)?;
+        if found.is_dir() {
+            let depth = folder.depth + 1;
+            folders.push(Folder { name: path, depth })?;
+            return Ok(());
+        }
+        if ends_as_binding(name) && self.is_readable(&path, &found)? {
+            note_name(dir, path, names)?;
+        }
+        Ok(())
+    }
+
+    /// Whether a name is that of a regular file or of a link to one. A link that can't be followed
+    /// counts as one: its read tells that it fails.
+    fn is_readable(&self, name: &Text, found: &Metadata) -> Result<bool, ReadEnd> {
+        if !found.is_symlink() {
+            return Ok(found.is_file());
+        }
+        match fs::metadata(&self.rt, name.as_str()) {
+            Ok(found) => Ok(found.is_file()),
+            Err(e) if e.kind() == ErrorKind::OutOfMemory => Err(ReadEnd::Memory(AllocError)),
+            Err(_) => Ok(true),
+        }
     }
 
     fn list_all(&self, alloc: Global, dir: &Text, most: u32) -> Result<Vec<Text>, ReadEnd>
@@ -129,10 +212,7 @@ impl<R: rt::Files + Input + AllocGlobal + Clone + Drop> RealFiles<R> {
             let Some(folder) = folders.pop() else {
                 break;
             };
-            self.list_one(alloc, dir, &folder, &mut folders, &mut names)?;
-            if names.len() > most as usize {
-                return Err(ReadEnd::TooBig);
-            }
+            self.list_one(alloc, dir, &folder, &mut folders, &mut names, most)?;
         }
         names.sort()?;
         Ok(names)

@@ -39,8 +39,8 @@ fn lines_of(alloc: Global, lines: &str) -> Result<Vec<Text>, AllocError> {
     Ok(texts)
 }
 
-/// The files of a listing.
-fn files_of(alloc: Global, listing: &str) -> Result<Vec<(Text, Bytes)>, AllocError> {
+/// The files of a listing, each after a line `== NAME`.
+pub fn files_of(alloc: Global, listing: &str) -> Result<Vec<(Text, Bytes)>, AllocError> {
     let mut files = Vec::new(alloc);
     let mut name: Option<Text> = None;
     let mut bytes = Vec::new(alloc);
