@@ -1,9 +1,13 @@
 pub mod Addresses
+pub mod Assembling
 pub mod Binding
 pub mod BoundTree
+pub mod Clashing
 pub mod Entering
+pub mod Gathering
 pub mod Loading
 pub mod Ordering
 pub mod Phases
+pub mod Relating
 pub mod Requiring
 pub mod Typing

@@ -1,6 +1,7 @@
 //! The entries of the phandle-arrays of all nodes.
 
-ghost use Rattle.std.specs.Prelude.{◌≡◌, ◌<◌, IfErr, IfOk, Ok, length, option_map, unwrap_or};
+ghost use Rattle.std.specs.Prelude.{◌≡◌, ◌<◌, IfErr, IfOk, Ok, length, option_and_then};
+ghost use Rattle.std.specs.Prelude.{option_map, unwrap_or};
 ghost use Rattle.edt_base.specs.Nodes.{path_at};
 ghost use Rattle.edt_base.specs.Refusals.{IsRefused};
 ghost use Rattle.bind_merge.specs.Checks.{is_phandle_array};

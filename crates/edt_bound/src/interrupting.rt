@@ -1,6 +1,7 @@
 //! The interrupts of all nodes.
 
-ghost use Rattle.std.specs.Prelude.{◌≡◌, ◌<◌, IfErr, IfOk, Ok, length};
+ghost use Rattle.std.specs.Prelude.{◌≡◌, ◌<◌, All, IfErr, IfOk, Ok, length};
+ghost use Rattle.edt_base.specs.EntryData.{EntryData};
 ghost use Rattle.edt_base.specs.Nodes.{path_at};
 ghost use Rattle.edt_base.specs.Refusals.{IsRefused};
 ghost use Rattle.edt_bound.specs.Phases.{AreAnswers, IsPhaseEnd};
@@ -41,6 +42,8 @@ pub(crate) fn all_interrupts(
     requires { IsMatches t.now.nodes lib.now m.now }
     ensures all { IfOk result (λ v. AreAnswers (irqs_of t.now.nodes lib.now)
         (length t.now.nodes) v.items) }
+    ensures controllers { IfOk result
+        (λ v. All (All (λ (irq : EntryData). irq.controller < length t.now.nodes)) v.items) }
     ensures refused { IfErr result (IsPhaseEnd t.now.nodes (irqs_of t.now.nodes lib.now)) }
 {
     t.is_well_formed();
@@ -65,6 +68,8 @@ fn interrupts_at(
     requires there { id < length t.now.nodes }
     requires matches { IsMatches t.now.nodes lib.now m.now }
     ensures is { IfOk result (λ i. irqs_of t.now.nodes lib.now id ≡ Ok i) }
+    ensures controllers { IfOk result
+        (All (λ (irq : EntryData). irq.controller < length t.now.nodes)) }
     ensures refused { IfErr result (IsRefused (irqs_of t.now.nodes lib.now id)
         (path_at t.now.nodes id)) }
 {

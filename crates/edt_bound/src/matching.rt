@@ -95,7 +95,8 @@ fn next_found<'a>(
     }
 }
 
-fn compats_of(t: &Tree, id: NodeId) -> &[Text]
+/// The compatible strings of a node.
+pub(crate) fn compats_of(t: &Tree, id: NodeId) -> &[Text]
     requires { id < length t.now.nodes }
     ensures { result.now ≡ compats_at t.now.nodes id }
 {

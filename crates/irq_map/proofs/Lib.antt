@@ -1,0 +1,2 @@
+pub mod InterruptLaws
+pub mod WrittenLaws

@@ -2,8 +2,8 @@
 #![tactic(auto)]
 
 mod gic;
-mod interrupts;
+mod irqs;
 mod unit;
 mod written;
 
-pub use interrupts::interrupts;
+pub use irqs::interrupts;

@@ -11,11 +11,7 @@ use std::alloc::{AllocError, Global};
 
 /// The unit address of a node: the first cells of its `reg`. None where there aren't as many as the
 /// node's parent says.
-pub(crate) fn unit_of(
-    alloc: Global,
-    t: &Tree,
-    id: NodeId,
-) -> Result<Option<Vec<u32>>, AllocError>
+pub(crate) fn unit_of(alloc: Global, t: &Tree, id: NodeId) -> Result<Option<Vec<u32>>, AllocError>
     requires { id < length t.now.nodes }
     ensures { IfOk result (λ unit. option_map (λ v. v.items) unit ≡ unit_of t.now.nodes id) }
 {

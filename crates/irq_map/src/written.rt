@@ -1,12 +1,9 @@
 //! Cuts what a node writes of its interrupts into specifiers.
 
-ghost use Rattle.std.specs.Prelude.{◌≡◌, ◌<◌, ◌∷◌, IfErr, IfOk, IfSome, All, Ok, drop, length, map, option_map, true};
-ghost use Rattle.edt_base.specs.NodeData.{bytes_of};
-ghost use Rattle.edt_base.specs.Nodes.{prop_at};
+ghost use Rattle.std.specs.Prelude.{◌≡◌, ◌<◌, IfErr, IfOk, IfSome, All, Ok, drop, length, map, option_and_then, option_map, position};
+ghost use Rattle.edt_base.specs.NodeData.{bytes_of, has_phandle};
 ghost use Rattle.edt_base.specs.Refusals.{IsStop};
-ghost use Rattle.edt_base.specs.TreeData.{ancestors};
-ghost use Rattle.edt_base.specs.Values.{value_cells};
-ghost use Rattle.bind_merge.specs.Options.{first_some};
+ghost use Rattle.edt_base.specs.Values.{single_cell, value_cells};
 ghost use Rattle.pha_nexus.specs.Cutting.{cut_after, first_entry};
 ghost use Rattle.pha_nexus.specs.Passing.{Hop};
 ghost use Rattle.reg_ranges.specs.Cutting.{are_whole, entries};
@@ -85,8 +82,10 @@ fn specified<'c>(
         (first_entry t.now.nodes interrupt phandle behind.now))) }
 {
     match first_entry(alloc, t, space, phandle, behind) {
-        Ok((Some(first), rest)) => Ok((first, rest)),
-        Ok((None, _)) => Err(Stop::Broken(Rule::V20)),
+        Ok((first, rest)) => match first {
+            Some(first) => Ok((first, rest)),
+            None => Err(Stop::Broken(Rule::V20)),
+        },
         Err(Stop::Broken(rule)) => Err(Stop::Broken(of_interrupts(rule))),
         Err(Stop::Memory(e)) => Err(Stop::Memory(e)),
     }
@@ -154,7 +153,12 @@ fn controller_by(t: &Tree, value: Option<&PropVal>) -> Result<NodeId, Rule>
     }
 }
 
-fn named_by(t: &Tree, value: &PropVal) -> Option<NodeId> {
+// The node whose phandle a value is.
+fn named_by(t: &Tree, value: &PropVal) -> Option<NodeId>
+    ensures node { result ≡ option_and_then (λ phandle. position (has_phandle phandle) t.now.nodes)
+        (single_cell value.now) }
+    ensures there { IfSome result (λ node. node < length t.now.nodes) }
+{
     t.by_phandle(value.single_cell()?)
 }
 

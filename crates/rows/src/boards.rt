@@ -1,11 +1,14 @@
-//! Trees of the sources that rows hold.
+//! Trees of the sources that rows hold, and the bindings for them.
 
 ghost use Rattle.std.specs.Prelude.{◌<◌, length};
 
+use crate::bindings::files_of;
+use crate::table::Row;
+use bind_merge::Library;
 use dts_parse::parse;
 use dts_tree::build;
 use edt_base::{End, NodeId, Text, Tree};
-use std::alloc::Global;
+use std::alloc::{AllocError, Global};
 
 /// The tree that a source leaves.
 pub fn tree_of(alloc: Global, source: &[u8]) -> Result<Tree, End> {
@@ -25,4 +28,25 @@ pub fn node_at(tree: &Tree, path: &str) -> NodeId
         Some(id) => id,
         None => NodeId(0),
     }
+}
+
+/// The binding files of a row, loaded for a tree.
+pub fn library_of(alloc: Global, row: &Row, tree: &Tree) -> Result<Library, End> {
+    let mut library = listed(alloc, row.text("library").unwrap_or(""))?;
+    let mut compats = Vec::new(alloc);
+    for node in tree.nodes().iter() {
+        for compat in node.compats.iter() {
+            compats.push(compat.copy(alloc)?)?;
+        }
+    }
+    library.load(alloc, &compats)?;
+    Ok(library)
+}
+
+fn listed(alloc: Global, listing: &str) -> Result<Library, AllocError> {
+    let files = files_of(alloc, listing)?;
+    if files.len() > 100000 {
+        return Ok(Library::new(Vec::new(alloc)));
+    }
+    Ok(Library::new(files))
 }

@@ -8,6 +8,7 @@ mod bindings;
 mod boards;
 mod c_lines;
 mod expansions;
+mod interrupts;
 mod objects;
 mod orders;
 mod properties;
@@ -36,6 +37,7 @@ enum Layer {
     BindLoad,
     BindMerge,
     PhaNexus,
+    IrqMap,
     RegRanges,
     PropTypes,
     DepOrder,
@@ -44,7 +46,7 @@ enum Layer {
     EdtRun,
 }
 
-const LAYERS: [Layer; 13] = [
+const LAYERS: [Layer; 14] = [
     Layer::EdtBase,
     Layer::DtsLex,
     Layer::DtsParse,
@@ -52,6 +54,7 @@ const LAYERS: [Layer; 13] = [
     Layer::BindLoad,
     Layer::BindMerge,
     Layer::PhaNexus,
+    Layer::IrqMap,
     Layer::RegRanges,
     Layer::PropTypes,
     Layer::DepOrder,
@@ -71,6 +74,7 @@ impl Layer {
             Layer::BindLoad => "bind_load.rows",
             Layer::BindMerge => "bind_merge.rows",
             Layer::PhaNexus => "pha_nexus.rows",
+            Layer::IrqMap => "irq_map.rows",
             Layer::RegRanges => "reg_ranges.rows",
             Layer::PropTypes => "prop_types.rows",
             Layer::DepOrder => "dep_order.rows",
@@ -90,6 +94,7 @@ impl Layer {
             Layer::BindLoad => records::answer(alloc, row),
             Layer::BindMerge => bindings::answer(alloc, row),
             Layer::PhaNexus => specifiers::answer(alloc, row),
+            Layer::IrqMap => interrupts::answer(alloc, row),
             Layer::RegRanges => registers::answer(alloc, row),
             Layer::PropTypes => properties::answer(alloc, row),
             Layer::DepOrder => orders::answer(alloc, row),

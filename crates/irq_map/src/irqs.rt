@@ -1,6 +1,6 @@
 //! The interrupts of nodes.
 
-ghost use Rattle.std.specs.Prelude.{◌≡◌, ◌<◌, All, IfErr, IfOk, Ok, length, option_map};
+ghost use Rattle.std.specs.Prelude.{◌≡◌, ◌<◌, All, IfErr, IfOk, Ok, codes, length, option_map};
 ghost use Rattle.edt_base.specs.EntryData.{EntryData};
 ghost use Rattle.edt_base.specs.Nodes.{path_at, prop_at};
 ghost use Rattle.edt_base.specs.Refusals.{IsRefused, IsStop};

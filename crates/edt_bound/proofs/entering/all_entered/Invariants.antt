@@ -1,0 +1,7 @@
+use Rattle.std.proofs.Common.{length}
+use Rattle.edt_bound.specs.Entering.{entries_at}
+use Rattle.edt_bound.specs.Phases.{AreAnswers}
+use Rattle.edt_bound.proofs.entering.all_entered.Given as goal
+
+abbrev pub invariant-loop-props : goal.invariant-loop-props
+invariant-loop-props l = AreAnswers (entries_at l.t.nodes l.lib) (length l.yielded) l.all.items
