@@ -161,7 +161,7 @@ impl<R: rt::Files + Input + AllocGlobal + Clone + Drop> RealFiles<R> {
         requires { AreBelow dir.now names.old.items }
         ensures { OnOk result (AreBelow dir.now names.new.items) }
     {
-        if name.is_empty() || name == b"." || name == b".." {
+        if name.is_empty() || name == b".".as_slice() || name == b"..".as_slice() {
             return Ok(());
         }
         let Ok(text) = str::from_utf8(name) else {

@@ -1,5 +1,5 @@
 -- Listing folders and reading the binding files that they list.
-use Rattle.std.proofs.Common.{◌≡◌, ◌+◌, ◌-◌, ◌<◌, ◌≤◌, ◌++◌, ◌∙◌, ◌⊎◌, ℕ, suc, Bool, true, false, IsTrue, List, [], ◌∷◌, Option, Some, None, IfSome, Contains, All, option_map, length, map, min, nat_lt, take, drop, refl, sym, subst, ap, arith, append-nil, append_assoc, inl, inr, if◌then◌else◌}
+use Rattle.std.proofs.Common.{◌≡◌, ◌+◌, ◌-◌, ◌<◌, ◌≤◌, ◌++◌, ◌∙◌, ◌⊎◌, ℕ, suc, Bool, true, false, IsTrue, List, [], ◌∷◌, Option, Some, None, IfSome, Contains, All, option_map, length, map, min, nat_lt, take, drop, drop-cons, get_or, add-one, refl, sym, subst, ap, arith, append-nil, append_assoc, inl, inr, if◌then◌else◌}
 use Rattle.std.specs.Cmp.Lexicographic.{slice_cmp}
 use Rattle.std.specs.List.{flat_map}
 use Rattle.std.specs.List.Sorted.{IsPermutation, IsSorted}
@@ -99,6 +99,17 @@ list_step held dirs at left names more new dir taken here inside few sorted belo
     told (Some files) m t =
         ap (λ x. x ++ more ∷ []) t ∙ (ap (λ x. map (listed files) (take at dirs) ++ x ∷ []) (is_listed files dir more sorted m)
         ∙ (sym (map-append (listed files) (take at dirs) (dir ∷ [])) ∙ ap (map (listed files)) (sym taken)))
+
+-- the same, as the code counts
+pub list_next : (held : Held) (dirs : List (List ℕ)) (at next left after : ℕ) (names more new : List (List ℕ)) (dir : List ℕ) → at < length dirs → dir ≡ get_or dirs at dir
+    → length more ≤ left → IsSorted (slice_cmp nat_cmp) more → AreBelow dir more → IfSome held (λ files. IsPermutation (names_below dir files) more) → new ≡ names ++ more
+    → next ≡ at + 1 → after ≡ left - length more → IsListing held dirs at left names → IsListing held dirs next after new
+list_next held dirs at next left after names more new dir within is few sorted below moved added one less l =
+    let taken : take (suc at) dirs ≡ take at dirs ++ dir ∷ [] =
+    ap (λ n. take n dirs) (sym (add-one at)) ∙ (take_more dirs at dir within ∙ ap (λ d. take at dirs ++ d ∷ []) (sym is)) in
+    let here : drop at dirs ≡ dir ∷ drop (suc at) dirs = drop-cons dirs at dir within ∙ ap (λ d. d ∷ drop (suc at) dirs) (sym is) in
+    subst (λ n. IsListing held dirs next n new) (sym less) (subst (λ n. IsListing held dirs n (left - length more) new) (sym (add-one at) ∙ sym one)
+    (list_step held dirs at left names more new dir taken here (at, within, sym is) few sorted below moved added l))
 
 pub listed_all : (held : Held) (dirs : List (List ℕ)) (at left : ℕ) (names : List (List ℕ)) → at ≡ length dirs → IsListing held dirs at left names → AreListed held dirs names
 listed_all held dirs at left names all l = record {
@@ -326,3 +337,23 @@ pub files_stop : (old mid new : FilesSeen) (job : JobData) (sources names : List
 files_stop old mid new job sources names why same count s l h =
     stop_map _ _ _ _ old new why (file_read (held_of old) job names l) (λ limit name a. files_past (held_of old) job sources names (too_long limit name) s l a)
     (stop_later _ _ old mid new why count (subst (λ o. IsStopBy (IsReadAmong names) (λ limit name. AreOver o names (too_long limit name)) mid new why) same h))
+
+-- ---- the same, step by step
+
+same_then : (old mid new : FilesSeen) → held_of mid ≡ held_of old → held_of new ≡ held_of mid → held_of new ≡ held_of old
+same_then old mid new p q = q ∙ p
+
+listed_then : (old mid : FilesSeen) (dirs names : List (List ℕ)) → held_of mid ≡ held_of old → AreListed (held_of mid) dirs names → AreListed (held_of old) dirs names
+listed_then old mid dirs names same l = subst (λ o. AreListed o dirs names) same l
+
+pub files_stop_later : (old mid later new : FilesSeen) (job : JobData) (sources names : List (List ℕ)) (why : Stop) → held_of mid ≡ held_of old → old.faults ≤ mid.faults
+    → held_of later ≡ held_of mid → mid.faults ≤ later.faults → AreRead (held_of old) job.cmd job.names sources → AreListed (held_of mid) job.dirs names → IsFileStop later new names why
+    → IsReadStop old new job why
+files_stop_later old mid later new job sources names why p a q b s l h =
+    files_stop old later new job sources names why (same_then old mid later p q) (omega (arith, a, b)) s (listed_then old mid job.dirs names p l) h
+
+pub all_of : (old mid later : FilesSeen) (job : JobData) (sources names : List (List ℕ)) (files : List File) → held_of mid ≡ held_of old → held_of later ≡ held_of mid
+    → AreRead (held_of old) job.cmd job.names sources → AreListed (held_of mid) job.dirs names → AreFilesRead (held_of later) names files
+    → IsRead (held_of old) job (record { sources = sources; files = files })
+all_of old mid later job sources names files p q s l f =
+    is_read (held_of old) job sources names files s (listed_then old mid job.dirs names p l) (subst (λ o. AreFilesRead o names files) (same_then old mid later p q) f)

@@ -14,3 +14,4 @@ pub mod RunLaws
 pub mod SourceLaws
 pub mod TreeAnswerLaws
 pub mod TreeLaws
+pub mod WordLaws

@@ -27,9 +27,9 @@ abbrev pub library_of : List File → List BindingData → LibData
 library_of files bindings = record { files = files; bindings = bindings }
 
 -- the files' bindings of this tree's strings are loaded without fault
-abbrev pub Loads : Inputs → TreeData → LibData → Type 0
-Loads i t lib = (bindings : List BindingData) × (loading.IsLoaded i.files (compats_of t.nodes) bindings)
-    × (lib ≡ library_of i.files bindings)
+abbrev pub Loads : List File → TreeData → LibData → Type 0
+Loads files t lib = (bindings : List BindingData) × (loading.IsLoaded files (compats_of t.nodes) bindings)
+    × (lib ≡ library_of files bindings)
 
 -- ---- the bound tree
 
@@ -38,14 +38,14 @@ pub record IsValid (i : Inputs) (b : BoundData) : Type 0 where
   pub tree : TreeData
   pub lib : LibData
   pub leaves : Leaves i.names i.sources tree
-  pub loads : Loads i tree lib
+  pub loads : Loads i.files tree lib
   pub valid : binding.IsValid tree lib (asked_of tree lib) b
 
 -- the first rule that is broken, at its place: in the sources, in the binding files, or in binding the tree
 pub data IsFirst (i : Inputs) (f : Fault) : Type 0 where
   in_tree : BreaksTree i.names i.sources f → IsFirst i f
   in_bindings : (t : TreeData) → Leaves i.names i.sources t → loading.IsFirstFault i.files (compats_of t.nodes) f → IsFirst i f
-  in_bound : (t : TreeData) (lib : LibData) → Leaves i.names i.sources t → Loads i t lib
+  in_bound : (t : TreeData) (lib : LibData) → Leaves i.names i.sources t → Loads i.files t lib
       → binding.IsFirstFault t lib (asked_of t lib) f → IsFirst i f
 
 -- ---- the answer

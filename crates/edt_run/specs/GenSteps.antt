@@ -1,5 +1,5 @@
 -- What the code of `gen` and `check` answers, step by step.
-use Rattle.std.specs.Prelude.{◌≤◌, Bool, Result, Ok, Err, length}
+use Rattle.std.specs.Prelude.{◌≤◌, true, false, Result, Ok, Err, length}
 use Rattle.edt_base.specs.BoundData.{BoundData}
 use Rattle.edt_base.specs.declared.fault.End.{End}
 use Rattle.edt_base.specs.declared.fault.End.TheVariants as ending
@@ -11,5 +11,5 @@ use Rattle.edt_run.specs.GenAnswer.{Inputs, IsGenAnswer, IsValid, header_limit}
 -- written or not
 abbrev pub IsBoundOver : Inputs → Result BoundData End → Type 0
 IsBoundOver i (Ok b) = IsValid i b × (length (header_text b) ≤ header_limit)
-IsBoundOver i (Err (ending.Fault f)) = (writes : Bool) → IsGenAnswer writes i (refused f)
+IsBoundOver i (Err (ending.Fault f)) = IsGenAnswer true i (refused f) × IsGenAnswer false i (refused f)
 IsBoundOver i (Err (ending.Memory e)) = Unit {0}

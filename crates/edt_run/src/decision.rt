@@ -86,22 +86,29 @@ fn over_read(alloc: Global, job: &Job, read: Read) -> Result<Decision, AllocErro
         (IsAnswerOf job.now.cmd job.now.names (given_by read))) }
 {
     job.has_names();
+    let Read { sources, files } = read;
+    let sources = sources.as_slice();
     match job.cmd {
-        Cmd::Gen => bound_header(alloc, &job.names, read),
-        Cmd::Check => tested(alloc, &job.names, read),
-        Cmd::Dts => left_tree(alloc, &job.names, read.sources.as_slice()),
-        Cmd::Expand => text_lines(alloc, job.names.as_slice(), read.sources.as_slice()),
+        Cmd::Gen => bound_header(alloc, &job.names, sources, files),
+        Cmd::Check => tested(alloc, &job.names, sources, files),
+        Cmd::Dts => left_tree(alloc, &job.names, sources),
+        Cmd::Expand => text_lines(alloc, job.names.as_slice(), sources),
     }
 }
 
 /// The header of the bound tree, or the first fault.
-fn bound_header(alloc: Global, names: &Vec<Text>, read: Read) -> Result<Decision, AllocError>
-    requires as_many { length read.sources ≡ length names.now.items }
-    requires few { length read.files ≤ names_limit }
+fn bound_header(
+    alloc: Global,
+    names: &Vec<Text>,
+    sources: &[Bytes],
+    files: Vec<(Text, Bytes)>,
+) -> Result<Decision, AllocError>
+    requires as_many { length sources.now ≡ length names.now.items }
+    requires few { length files.items ≤ names_limit }
     ensures { IfOk result (λ d. LeadsTo false d (IsGenAnswer true
-        (record { names = names.now.items; sources = read.sources; files = read.files }))) }
+        (record { names = names.now.items; sources = sources.now; files = files.items }))) }
 {
-    match bound_of(alloc, names, read) {
+    match bound_of(alloc, names, sources, files) {
         Ok(bound) => Ok(Decision::Header(bound)),
         Err(End::Fault(fault)) => Ok(Decision::Refused(refuse(alloc, &fault)?)),
         Err(End::Memory(e)) => Err(e),
@@ -109,13 +116,18 @@ fn bound_header(alloc: Global, names: &Vec<Text>, read: Read) -> Result<Decision
 }
 
 /// Nothing to write where the tree can be bound, or the first fault.
-fn tested(alloc: Global, names: &Vec<Text>, read: Read) -> Result<Decision, AllocError>
-    requires as_many { length read.sources ≡ length names.now.items }
-    requires few { length read.files ≤ names_limit }
+fn tested(
+    alloc: Global,
+    names: &Vec<Text>,
+    sources: &[Bytes],
+    files: Vec<(Text, Bytes)>,
+) -> Result<Decision, AllocError>
+    requires as_many { length sources.now ≡ length names.now.items }
+    requires few { length files.items ≤ names_limit }
     ensures { IfOk result (λ d. LeadsTo false d (IsGenAnswer false
-        (record { names = names.now.items; sources = read.sources; files = read.files }))) }
+        (record { names = names.now.items; sources = sources.now; files = files.items }))) }
 {
-    match bound_of(alloc, names, read) {
+    match bound_of(alloc, names, sources, files) {
         Ok(_) => Ok(Decision::Tested),
         Err(End::Fault(fault)) => Ok(Decision::Refused(refuse(alloc, &fault)?)),
         Err(End::Memory(e)) => Err(e),

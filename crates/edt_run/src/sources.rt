@@ -81,9 +81,28 @@ pub(crate) fn read_job<F: Files>(alloc: Global, job: &Job, files: &mut F) -> Res
     ensures count { (F.seen files.old).faults ≤ (F.seen files.new).faults }
 {
     job.has_names();
-    let sources = read_sources(alloc, job.cmd, job.names.as_slice(), files)?;
-    let names = list_folders(alloc, job.dirs.as_slice(), files)?;
-    let files = read_files(alloc, names, files)?;
+    read_named(alloc, job.cmd, job.dirs.as_slice(), job.names.as_slice(), files)
+}
+
+/// What a command reads with these folders and sources, or why reading it stopped.
+fn read_named<F: Files>(
+    alloc: Global,
+    cmd: Cmd,
+    dirs: &[Text],
+    names: &[Text],
+    files: &mut F,
+) -> Result<Read, Stop>
+    requires { 0 < length names.now }
+    ensures read { IfOk result (IsRead (held_of (F.seen files.old))
+        (record { cmd = cmd; dirs = dirs.now; names = names.now })) }
+    ensures stopped { IfErr result (IsReadStop (F.seen files.old) (F.seen files.new)
+        (record { cmd = cmd; dirs = dirs.now; names = names.now })) }
+    ensures held { held_of (F.seen files.new) ≡ held_of (F.seen files.old) }
+    ensures count { (F.seen files.old).faults ≤ (F.seen files.new).faults }
+{
+    let sources = read_sources(alloc, cmd, names, files)?;
+    let listed = list_folders(alloc, dirs, files)?;
+    let files = read_files(alloc, listed, files)?;
     Ok(Read { sources, files })
 }
 

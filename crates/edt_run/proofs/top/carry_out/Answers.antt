@@ -1,6 +1,7 @@
-use Rattle.std.proofs.Common.{◌≡◌, None, Some, true, refl, subst, sym, arith, string_bytes}
+use Rattle.std.proofs.Common.{◌≡◌, [], None, Some, true, refl, subst, sym, arith, string_bytes}
 use Rattle.dts_print.specs.Printed.{printed}
 use Rattle.c_macro.specs.Table.{known_of}
+use Rattle.edt_run.specs.declared.top.Status.TheVariants as status
 use Rattle.edt_run.specs.Answer.{done}
 use Rattle.head_write.specs.Header.{header_text}
 use Rattle.edt_run.specs.Promises.{writes_early}
@@ -28,6 +29,13 @@ returns-in-Ok-Source g c =
     ran_write_failed _ (done (printed c.in-Ok-Source.tree)) (subst (λ o. IsWanted (g.F.Files.seen c.args.files.now) (g.F.Files.seen c.decide.new.files) o (done (printed c.in-Ok-Source.tree))) named
     (rw c.in-Ok-Source.field-0-is at c.in-Ok-Source.ensures.wanted))
     (is_job _ _ named) (c.decide.ensures.held, c.decide.ensures.count) c.in-Err-print.ensures c.say-in-Err-print.ensures
+
+pub returns-in-Ok-Tested : goal.returns-in-Ok-Tested
+returns-in-Ok-Tested g c =
+    let named : Some c.in-Ok-Some.job ≡ job_of c.args.words.now = rw c.in-Ok-Some.field-0-is at c.in-Ok-Some.ensures in
+    ran_refusal _ status.Done [] (subst (λ o. IsWanted (g.F.Files.seen c.args.files.now) (g.F.Files.seen c.decide.new.files) o (done [])) named
+    (rw c.in-Ok-Tested.field-0-is at c.in-Ok-Tested.ensures.wanted))
+    (is_job _ _ named) (c.decide.ensures.held, c.decide.ensures.count) refl c.say-in-Ok-Tested.ensures
 
 pub returns-in-Ok-Refused : goal.returns-in-Ok-Refused
 returns-in-Ok-Refused g c =
