@@ -7,7 +7,7 @@ use Rattle.edt_base.specs.Outside.{FilesSeen, held_of}
 use Rattle.edt_run.specs.declared.asked.Cmd.{Cmd}
 use Rattle.edt_run.specs.declared.asked.Cmd.TheVariants as cmd
 use Rattle.edt_run.specs.declared.top.Status.TheVariants as status
-use Rattle.edt_run.specs.Answer.{Answer, AreFiles, Given, IsGiven, all_listed, at_root, done, refusal, refused, refused_behind, fault_line, limit_passed, with_content}
+use Rattle.edt_run.specs.Answer.{Answer, AreFiles, Given, IsGiven, all_listed, at_root, done, refusal, refused, fault_line, limit_passed, with_content}
 use Rattle.edt_run.specs.ExpandAnswer.{Breach, breach_fault, ended, IsAnswerOver, nothing_known}
 use Rattle.c_macro.specs.Directive.{Known}
 use Rattle.edt_run.specs.GenAnswer.{Inputs, IsGenAnswer, header_limit, over_header}

@@ -3,13 +3,13 @@ use Rattle.std.proofs.Common.{◌≡◌, ◌∙◌, ◌⊎◌, ◌-◌, ◌<◌,
 use Rattle.edt_base.specs.declared.fault.Rule.{Rule}
 use Rattle.edt_base.specs.declared.fault.Rule.TheVariants as rule
 use Rattle.c_tokens.specs.LineData.{LineData}
-use Rattle.c_tokens.specs.Lines.{Logical, LogicalLine, Unread, Ending, AtEnd, NoTokens, LinesOf, no_more, one_more, refused, line_of, left_behind}
+use Rattle.c_tokens.specs.Lines.{Unread, Ending, AtEnd, NoTokens, LinesOf, no_more, one_more, refused}
 use Rattle.c_tokens.specs.Reading.{Gives, HasNoTokens, IfRule}
 use Rattle.c_tokens.specs.declared.tok.CEnd.{CEnd}
 use Rattle.c_tokens.specs.declared.tok.CEnd.TheVariants as ending
 use Rattle.c_tokens.specs.Shown.{shown}
 use Rattle.c_tokens.proofs.OneList.{one_list}
-use Rattle.c_macro.specs.Directive.{Directive, Known, Follows, broken_by, defs_after, line_directive}
+use Rattle.c_macro.specs.Directive.{Directive, Known, Follows, broken_by, line_directive}
 use Rattle.c_macro.specs.Expansion.{Outcome, Done, Refused, expands, most_units}
 use Rattle.c_macro.specs.Marked.{Marked, toks_of, unbarred}
 use Rattle.c_macro.proofs.OneOutcome.{one_outcome}

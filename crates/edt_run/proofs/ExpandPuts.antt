@@ -1,5 +1,5 @@
 -- The output of a text on its way to a sink, line by line.
-use Rattle.std.proofs.Common.{◌≡◌, ◌∙◌, ◌+◌, ◌<◌, ◌≤◌, ◌++◌, take, drop, get_or, ℕ, Bool, true, false, IsTrue, List, [], ◌∷◌, Option, Some, None, codes, length, refl, sym, ap, subst, append_assoc, append-nil, arith, length-append, string_bytes}
+use Rattle.std.proofs.Common.{◌≡◌, ◌∙◌, ◌+◌, ◌<◌, ◌++◌, take, drop, get_or, ℕ, true, false, List, [], ◌∷◌, Option, Some, None, length, refl, sym, ap, subst, append_assoc, append-nil, arith, length-append, string_bytes}
 use Rattle.std.specs.List.{flat_map}
 use Rattle.std.proofs.lemmas.Bool.{false≢true}
 use Rattle.std.proofs.lemmas.List.{take-append-drop, take_more, drop_more}
@@ -16,8 +16,7 @@ use Rattle.edt_run.specs.declared.expanding.Halt.TheVariants as halt
 use Rattle.edt_run.specs.declared.expanding.Ended.TheVariants as ending
 use Rattle.edt_run.specs.declared.refusal.Refusal.{Refusal}
 use Rattle.edt_run.specs.declared.top.Status.TheVariants as status
-use Rattle.edt_run.specs.Answer.{Answer}
-use Rattle.edt_run.specs.ExpandAnswer.{Breach, Adds, OutputFrom, from_start, ended, IsTextAnswer}
+use Rattle.edt_run.specs.ExpandAnswer.{Breach, Adds, OutputFrom, from_start, ended}
 use Rattle.edt_run.specs.ExpandSteps.{Goes, IsPutNext, IsPut, IsEnded, IsToldBehind}
 use Rattle.edt_run.proofs.ExpandLaws.{has_output, adds_from}
 

@@ -1,13 +1,11 @@
 -- Listing folders and reading the binding files that they list.
-use Rattle.std.proofs.Common.{◌≡◌, ◌+◌, ◌-◌, ◌<◌, ◌≤◌, ◌++◌, ◌∙◌, ◌⊎◌, ℕ, suc, Bool, true, false, IsTrue, List, [], ◌∷◌, Option, Some, None, IfSome, Contains, All, option_map, length, map, min, nat_lt, take, drop, drop-cons, get_or, add-one, refl, sym, subst, ap, arith, append-nil, append_assoc, inl, inr, if◌then◌else◌}
+use Rattle.std.proofs.Common.{◌≡◌, ◌+◌, ◌-◌, ◌<◌, ◌≤◌, ◌++◌, ◌∙◌, ℕ, suc, Bool, true, false, IsTrue, List, [], ◌∷◌, Some, None, IfSome, Contains, option_map, length, map, min, nat_lt, take, drop, drop-cons, get_or, add-one, refl, sym, subst, ap, arith, append-nil, append_assoc, inl, inr, if◌then◌else◌}
 use Rattle.std.specs.Cmp.Lexicographic.{slice_cmp}
-use Rattle.std.specs.List.{flat_map}
 use Rattle.std.specs.List.Sorted.{IsPermutation, IsSorted}
 use Rattle.std.specs.Ordering.{nat_cmp}
 use Rattle.std.proofs.Math.ListN.{replicate}
 use Rattle.std.proofs.lemmas.Bool.Decides.{nat_tests}
-use Rattle.std.proofs.lemmas.Grind.{common_steps}
-use Rattle.std.proofs.lemmas.List.{length-replicate, length-append, length-map, map-append, take-append-drop, take_more}
+use Rattle.std.proofs.lemmas.List.{length-replicate, length-append, length-map, map-append, take_more}
 use Rattle.std.proofs.lemmas.List.Elements.{All-contains, Contains-append_cases, Contains-append_right}
 use Rattle.std.proofs.lemmas.List.Sorted.{Contains-permutation, IsPermutation-sym}
 use Rattle.edt_base.specs.declared.fault.Fault.{Fault}
@@ -17,13 +15,13 @@ use Rattle.edt_base.specs.declared.outside.Call.{Call}
 use Rattle.edt_base.specs.declared.outside.Call.TheVariants as call
 use Rattle.edt_base.specs.Outside.{AreBelow, FilesSeen, content, held_of, is_binding_below, names_below}
 use Rattle.edt_run.specs.declared.sources.Stop.{Stop}
-use Rattle.edt_run.specs.Answer.{AreFiles, AreOf, Given, IsGivenTo, all_listed, file_limit, file_rule, files_limit, first_above, first_full, first_over, first_past, limit_passed, listed, names_limit, names_of, or_else, too_long, with_content}
+use Rattle.edt_run.specs.Answer.{AreFiles, AreOf, IsGivenTo, all_listed, file_limit, file_rule, files_limit, first_above, first_full, first_over, listed, names_limit, names_of, too_long, with_content}
 use Rattle.edt_run.specs.Job.{JobData}
-use Rattle.edt_run.specs.Promises.{IsListed, IsListedByOne, IsReadOf}
-use Rattle.edt_run.specs.Reading.{AreAbove, AreFilesRead, AreListed, AreOver, ArePast, AreRead, AreTogether, Held, IsAbove, IsFileStop, IsListAmong, IsListStop, IsPast, IsRead, IsReadAmong, IsReadStop, IsSourceStop, IsStopBy, ReadData}
+use Rattle.edt_run.specs.Promises.{IsListedByOne, IsReadOf}
+use Rattle.edt_run.specs.Reading.{AreAbove, AreFilesRead, AreListed, AreOver, ArePast, AreRead, Held, IsAbove, IsFileStop, IsListAmong, IsListStop, IsPast, IsRead, IsReadAmong, IsReadStop, IsSourceStop, IsStopBy}
 use Rattle.edt_run.proofs.Listed.{as_many_listed, is_listed}
 use Rattle.edt_run.proofs.OneList.{here}
-use Rattle.edt_run.proofs.SourceLaws.{IsLeft, Something, above_at, neither, first_so, past_so, read_all, second_so, something, stop_later, stop_map}
+use Rattle.edt_run.proofs.SourceLaws.{IsLeft, above_at, neither, first_so, past_so, read_all, second_so, something, stop_later, stop_map}
 
 abbrev pub File : Type 0
 File = List ℕ × List ℕ

@@ -6,7 +6,7 @@ use Rattle.edt_base.specs.declared.fault.Fault.{Fault}
 use Rattle.edt_base.specs.declared.fault.End.{End}
 use Rattle.edt_base.specs.declared.fault.End.TheVariants as ending
 use Rattle.edt_base.specs.declared.fault.Rule.TheVariants as rule
-use Rattle.bind_merge.specs.LibraryData.{BindingData, LibData}
+use Rattle.bind_merge.specs.LibraryData.{LibData}
 use Rattle.bind_merge.specs.Listing.{File}
 use Rattle.bind_merge.specs.Loading as loading
 use Rattle.dts_parse.proofs.Whole.{one_script}
@@ -17,7 +17,7 @@ use Rattle.head_write.specs.Header.{header_text}
 use Rattle.edt_run.specs.Answer.{Answer, at_root, done, refused}
 use Rattle.edt_run.specs.GenAnswer.{Inputs, IsFirst, IsGenAnswer, IsValid, Loads, header_limit, library_of, over_header, in_tree, in_bindings, in_bound}
 use Rattle.edt_run.specs.GenSteps.{IsBoundOver}
-use Rattle.edt_run.specs.TreeAnswer.{BreaksTree, Leaves}
+use Rattle.edt_run.specs.TreeAnswer.{Leaves}
 use Rattle.edt_run.specs.TreeSteps.{IsLeft}
 use Rattle.edt_run.proofs.OneBinding.{not_loaded, one_load_fault, one_loaded}
 use Rattle.edt_run.proofs.OneBound.{not_bound, one_bound_fault, one_valid}

@@ -1,10 +1,9 @@
 -- The names of the binding files below a folder, in byte order: there is one such list, and it is `listed`.
-use Rattle.std.proofs.Common.{◌≡◌, ◌∙◌, ◌+◌, ◌<◌, ◌≤◌, ℕ, zero, suc, Bool, true, false, List, [], ◌∷◌, length, refl, sym, ap, subst, arith, if◌then◌else◌}
+use Rattle.std.proofs.Common.{◌≡◌, ◌∙◌, ◌+◌, ℕ, suc, true, false, List, [], ◌∷◌, length, refl, sym, ap, subst, arith}
 use Rattle.std.specs.Cmp.Lexicographic.{slice_cmp, nat_list_cmp_total}
 use Rattle.std.specs.List.{sum_by, slice_index_or}
 use Rattle.std.specs.List.Sorted.{IsPermutation, IsSorted}
 use Rattle.std.specs.Ordering.{nat_cmp, is_lt, ordering_reverse}
-use Rattle.std.specs.Str.{bytes_eq}
 use Rattle.std.specs.declared.cmp.Ordering.{Ordering}
 use Rattle.std.specs.declared.cmp.Ordering.TheVariants.{Less, Equal, Greater}
 use Rattle.std.proofs.lemmas.List.Sorted.{sum_by-IsPermutation}
@@ -122,7 +121,7 @@ rises_from x [] s = tt
 rises_from x (y ∷ ys) s = (
   s 0 x (omega arith) (omega arith),
   rises_from y ys (λ k d lo hi. subst (λ n. is_lt (slice_cmp nat_cmp (slice_index_or (x ∷ y ∷ ys) n d) (slice_index_or (x ∷ y ∷ ys) (suc k) d)) ≡ false) (next k)
-  (s (suc k) d (omega arith) (omega (arith, hi)))),
+      (s (suc k) d (omega arith) (omega (arith, hi)))),
 )
 
 rises : (xs : List (List ℕ)) → IsSorted (slice_cmp nat_cmp) xs → Rises xs

@@ -1,19 +1,15 @@
 -- Loading the bindings has one outcome: the merged bindings, or the first fault.
-use Rattle.std.proofs.Common.{◌≡◌, ◌∙◌, ◌⊎◌, ◌++◌, ℕ, zero, suc, Bool, true, false, IsTrue, List, [], ◌∷◌, Option, Some, None, option_map, map, refl, sym, ap, subst, inl, inr, arith}
-use Rattle.edt_base.specs.YamlData.{Value}
-use Rattle.edt_base.specs.declared.bound.PropType.{PropType}
+use Rattle.std.proofs.Common.{◌≡◌, ◌∙◌, ◌⊎◌, ◌++◌, ℕ, suc, Bool, true, false, IsTrue, List, [], ◌∷◌, Option, Some, None, option_map, refl, sym, ap, subst, inl, inr, arith}
 use Rattle.edt_base.specs.declared.fault.Fault.{Fault}
-use Rattle.edt_base.specs.declared.fault.Rule.{Rule}
 use Rattle.bind_merge.specs.Checks.{merged_rule}
 use Rattle.bind_merge.specs.Facts.{Fact, Gives, IsGiven, Setting, there, described, buses, on_bus, of_space, of_prop, named, type_is, required, deprecated, default, constant, choices, space, cells}
 use Rattle.bind_merge.specs.Files.{FileData, file_fault, name_of}
 use Rattle.bind_merge.specs.Levels.{EntryData, LevelTable}
 use Rattle.bind_merge.specs.LibraryData.{BindingData}
 use Rattle.bind_merge.specs.Listing.{File, read_files}
-use Rattle.bind_merge.specs.Loading.{AreSound, BreaksAt, BreaksMerged, IsFirstBroken, IsFirstFault, IsFirstTwin, IsLoaded, IsSound, files_of, matching, text_fault, twin_fault}
+use Rattle.bind_merge.specs.Loading.{AreSound, BreaksAt, BreaksMerged, IsFirstBroken, IsFirstFault, IsFirstTwin, IsLoaded, IsSound, files_of, matching, twin_fault}
 use Rattle.bind_merge.specs.Merging.{IsMerged}
-use Rattle.bind_merge.specs.Options.{first_some}
-use Rattle.bind_merge.specs.Ordered.{IsBefore, IsBeforeAll, IsInOrder, LevelRises, Rises, SaysAt}
+use Rattle.bind_merge.specs.Ordered.{IsBefore, IsBeforeAll, IsInOrder, Rises, SaysAt}
 use Rattle.bind_merge.proofs.JoinedLists.{before-itself, before-trans, given-before}
 use Rattle.edt_run.proofs.OneList.{none_some, same_option, some_same}
 

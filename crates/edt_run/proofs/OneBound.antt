@@ -1,11 +1,9 @@
 -- Binding a tree has one outcome: the bound tree, or the first fault.
-use Rattle.std.proofs.Common.{◌≡◌, ◌∙◌, ◌+◌, ◌<◌, ◌⊎◌, ◌++◌, ℕ, zero, suc, Bool, true, false, List, [], ◌∷◌, Option, Some, None, Result, Ok, Err, All, Contains, length, map, option_map, slice_get, get_or, min, take, refl, sym, ap, subst, inl, inr, arith, append_assoc}
-use Rattle.std.specs.Cmp.Lexicographic.{slice_cmp, nat_list_cmp_total}
-use Rattle.std.specs.List.{filter, list_any, range_with_len}
-use Rattle.std.specs.List.Sorted.{IsStrictlyIncreasing, IsStrictlySortedBy}
+use Rattle.std.proofs.Common.{◌≡◌, ◌∙◌, ◌+◌, ◌<◌, ◌⊎◌, ◌++◌, ℕ, zero, suc, true, false, List, [], ◌∷◌, Option, Some, None, Result, Ok, Err, Contains, length, map, option_map, slice_get, get_or, take, refl, sym, ap, subst, inl, inr, arith, append_assoc}
+use Rattle.std.specs.List.{range_with_len}
+use Rattle.std.specs.List.Sorted.{IsStrictlyIncreasing}
 use Rattle.std.specs.Option.{option_map_or}
 use Rattle.std.specs.Result.{IsOk}
-use Rattle.std.specs.Str.{bytes_eq}
 use Rattle.std.proofs.lemmas.Bool.{cases_order}
 use Rattle.std.proofs.lemmas.Cmp.{nat_cmp_total}
 use Rattle.std.proofs.lemmas.List.{append-nil, get_or-take, length-map, length-take}
@@ -21,22 +19,21 @@ use Rattle.edt_base.specs.NodeData.{NodeData}
 use Rattle.edt_base.specs.Nodes.{path_at}
 use Rattle.edt_base.specs.TreeData.{TreeData}
 use Rattle.edt_base.specs.declared.fault.Fault.{Fault}
-use Rattle.edt_base.specs.declared.fault.Place.{Place}
 use Rattle.edt_base.specs.declared.fault.Place.TheVariants as place
 use Rattle.edt_base.specs.declared.fault.Rule.{Rule}
 use Rattle.edt_base.specs.declared.fault.Rule.TheVariants as rule
 use Rattle.bind_merge.specs.LibraryData.{LibData}
-use Rattle.dep_order.specs.Order.{IsOrder, IsPlacing, required}
+use Rattle.dep_order.specs.Order.{IsPlacing, required}
 use Rattle.dep_order.proofs.Listing.{contains_at}
-use Rattle.dt_names.specs.Clash.{AreDoubles, AreFree, IsClash, clashes, doubles_from}
+use Rattle.dt_names.specs.Clash.{AreFree, IsClash, clashes, doubles_from}
 use Rattle.dt_names.specs.Facts.{FactData, facts}
 use Rattle.edt_bound.specs.Addresses.{AddressData}
 use Rattle.edt_bound.specs.BoundTree.{AreBoundNodes, IsBoundTree, IsFirstFault, IsValid, Questions, addresses_in, needs_in, in_props, in_addresses, in_entries, in_irqs, in_order, in_names}
 use Rattle.edt_bound.specs.Ordering.{IsFirstStuck}
 use Rattle.edt_bound.specs.Phases.{AreAnswers, IsAnswered, IsAt, IsFirstBroken}
-use Rattle.edt_bound.specs.Requiring.{AreNeeds, AreSupports, RefersTo, Requires, needs_at, to_parent, by_value, by_interrupt}
+use Rattle.edt_bound.specs.Requiring.{RefersTo, Requires, needs_at, to_parent, by_value, by_interrupt}
 use Rattle.edt_run.proofs.OneInsts.{one_insts}
-use Rattle.edt_run.proofs.OneList.{none, none_some, one_sorted, some_same}
+use Rattle.edt_run.proofs.OneList.{none, one_sorted}
 use Rattle.edt_run.proofs.OneOrder.{AreAlike, one_order, one_stuck, not_both}
 
 -- ---- one phase

@@ -1,5 +1,5 @@
 -- A tree has one list of instances.
-use Rattle.std.proofs.Common.{◌≡◌, ◌∙◌, ◌<◌, ◌++◌, ◌||◌, ℕ, Bool, true, false, List, [], ◌∷◌, Option, Some, None, All, Contains, not, length, map, slice_get, refl, sym, ap, subst, inl, inr, arith}
+use Rattle.std.proofs.Common.{◌≡◌, ◌∙◌, ◌<◌, ◌++◌, ◌||◌, ℕ, Bool, true, false, List, [], ◌∷◌, Option, Some, None, All, Contains, not, length, slice_get, refl, sym, ap, subst, inl, inr, arith}
 use Rattle.std.specs.Cmp.Lexicographic.{nat_list_cmp_total}
 use Rattle.std.specs.List.{filter, list_any, range_with_len}
 use Rattle.std.specs.Option.{option_map_or}
@@ -63,7 +63,7 @@ record IsOf (is : List InstData) (c : List ℕ) : Type 0 where
 inst_of : (is : List InstData) (c : List ℕ) → Contains (compats_of is) c → IsOf is c
 inst_of [] c h = absurd (none c h)
 inst_of (i ∷ is) c h = elim (cases i.compat c (compats_of is) h) [
-    inl e ↦ record { inst = i; held = here i is; compat = e }
+  | inl e ↦ record { inst = i; held = here i is; compat = e }
   | inr d ↦ (let o = inst_of is c d in record { inst = o.inst; held = there i o.inst is o.held; compat = o.compat })
 ]
 

@@ -1,11 +1,11 @@
 -- Lists in order are known by their elements.
-use Rattle.std.proofs.Common.{◌≡◌, ◌∙◌, ◌+◌, ◌<◌, ◌⊎◌, ◌++◌, ℕ, zero, suc, Bool, true, false, List, [], ◌∷◌, Option, Some, None, Contains, length, map, refl, sym, ap, subst, inl, inr, arith}
+use Rattle.std.proofs.Common.{◌≡◌, ◌∙◌, ◌<◌, ◌⊎◌, zero, suc, List, [], ◌∷◌, Option, Some, None, Contains, refl, sym, ap, subst, inl, inr, arith}
 use Rattle.std.specs.Cmp.{IsTotalOrder}
 use Rattle.std.specs.List.{AllByRecursion}
 use Rattle.std.specs.List.Sorted.{IsStrictlySortedBy}
 use Rattle.std.specs.Ordering.{ordering_reverse}
 use Rattle.std.specs.declared.cmp.Ordering.{Ordering}
-use Rattle.std.specs.declared.cmp.Ordering.TheVariants.{Less, Equal, Greater}
+use Rattle.std.specs.declared.cmp.Ordering.TheVariants.{Less, Greater}
 use Rattle.std.proofs.lemmas.List.Elements.{Contains-append_cases}
 use Rattle.std.proofs.lemmas.Map.Keys.{sorted_head, sorted_tail}
 
@@ -43,9 +43,9 @@ not_both o x y h k = irreflexive o x (o.trans x y x h k)
 same_head : {K : Type 0} {R : K → K → Ordering} → IsTotalOrder R → (x y : K) (xs ys : List K) → AllByRecursion (λ z. R x z ≡ Less) xs → AllByRecursion (λ z. R y z ≡ Less) ys
     → Contains (y ∷ ys) x → Contains (x ∷ xs) y → x ≡ y
 same_head {R = R} o x y xs ys p q f g = elim (cases y x ys f) [
-    inl e ↦ sym e
+  | inl e ↦ sym e
   | inr c ↦ elim (cases x y xs g) [
-      inl e ↦ e
+    | inl e ↦ e
     | inr d ↦ absurd (not_both o x y (of_all (λ z. R x z ≡ Less) xs p y d) (of_all (λ z. R y z ≡ Less) ys q x c))
   ]
 ]
@@ -53,7 +53,7 @@ same_head {R = R} o x y xs ys p q f g = elim (cases y x ys f) [
 same_tail : {K : Type 0} {R : K → K → Ordering} → IsTotalOrder R → (x y : K) (xs ys : List K) → x ≡ y → AllByRecursion (λ z. R x z ≡ Less) xs
     → ((k : K) → Contains (x ∷ xs) k → Contains (y ∷ ys) k) → (k : K) → Contains xs k → Contains ys k
 same_tail {R = R} o x y xs ys same p f k c = elim (cases y k ys (f k (there x k xs c))) [
-    inl e ↦ absurd (irreflexive o x (subst (λ z. R x z ≡ Less) (sym (same ∙ e)) (of_all (λ z. R x z ≡ Less) xs p k c)))
+  | inl e ↦ absurd (irreflexive o x (subst (λ z. R x z ≡ Less) (sym (same ∙ e)) (of_all (λ z. R x z ≡ Less) xs p k c)))
   | inr d ↦ d
 ]
 

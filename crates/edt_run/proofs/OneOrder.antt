@@ -1,5 +1,5 @@
 -- An order of dependencies hangs on which nodes each node requires, and not on how they are listed.
-use Rattle.std.proofs.Common.{◌≡◌, ◌<◌, ℕ, List, All, Contains, length, sym, arith}
+use Rattle.std.proofs.Common.{◌≡◌, ℕ, List, All, Contains, length, sym, arith}
 use Rattle.std.specs.List.{slice_index_or}
 use Rattle.std.proofs.lemmas.List.Elements.{All-contains, Contains-get_or}
 use Rattle.dep_order.specs.Order.{IsFull, IsNext, IsOrder, IsPlacing, IsReady, IsStuck, required}

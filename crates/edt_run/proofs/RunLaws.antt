@@ -20,7 +20,6 @@ use Rattle.edt_run.specs.declared.asked.Cmd.TheVariants as cmd
 use Rattle.head_write.specs.Header.{header_text}
 use Rattle.dts_print.specs.Printed.{printed}
 use Rattle.c_macro.specs.Directive.{Known}
-use Rattle.c_macro.specs.Table.{known_of}
 use Rattle.edt_run.specs.Job.{JobData, job_of}
 use Rattle.edt_run.specs.Promises.{Run, IsAnswerOf, IsAnswerFrom, KeepsFiles, inputs_of, is_plain, writes_early}
 use Rattle.edt_run.specs.Steps.{Ran, IsSaid, IsWanted, IsWantedAs, LeadsTo, IsRefusedBy}

@@ -1,10 +1,7 @@
 -- Reading what a job names, one after another and within the limits.
-use Rattle.std.proofs.Common.{◌≡◌, ◌+◌, ◌-◌, ◌<◌, ◌≤◌, ◌++◌, ◌∙◌, ℕ, suc, Bool, true, false, List, [], ◌∷◌, Option, Some, None, Result, Ok, Err, IfErr, IsErrAnd, IfSome, Contains, option_map, length, map, min, nat_lt, take, drop, refl, sym, subst, ap, arith, append-nil, inl, inr, if◌then◌else◌}
-use Rattle.std.specs.List.{flat_map}
+use Rattle.std.proofs.Common.{◌≡◌, ◌+◌, ◌-◌, ◌<◌, ◌≤◌, ◌++◌, ◌∙◌, ℕ, suc, List, [], ◌∷◌, Option, Some, None, Result, Ok, Err, IfErr, IsErrAnd, IfSome, Contains, option_map, length, map, take, drop, refl, sym, subst, ap, arith, append-nil}
 use Rattle.std.proofs.Math.ListN.{replicate}
-use Rattle.std.proofs.lemmas.Bool.Decides.{nat_tests}
 use Rattle.std.proofs.lemmas.List.{length-replicate, length-drop, take-append-drop, length-append, length-map}
-use Rattle.std.proofs.lemmas.List.Concat.{flat_map-cons}
 use Rattle.std.proofs.lemmas.List.Elements.{Contains-append_left, Contains-append_right}
 use Rattle.std.proofs.lemmas.Grind.{common_steps}
 use Rattle.std.proofs.Math.Seq.{take-append_seam, drop-append_seam}
@@ -13,16 +10,13 @@ use Rattle.edt_base.specs.declared.fault.Rule.{Rule}
 use Rattle.edt_base.specs.declared.fault.Rule.TheVariants as rule
 use Rattle.edt_base.specs.declared.outside.Call.{Call}
 use Rattle.edt_base.specs.declared.outside.Call.TheVariants as call
-use Rattle.edt_base.specs.Outside.{FilesSeen, Rose, content, held_of}
+use Rattle.edt_base.specs.Outside.{FilesSeen, content, held_of}
 use Rattle.edt_base.proofs.WriteLaws.{rose_then}
-use Rattle.edt_run.specs.declared.asked.Cmd.{Cmd}
 use Rattle.edt_run.specs.declared.asked.Cmd.TheVariants as cmd
 use Rattle.edt_run.specs.declared.sources.Stop.{Stop}
 use Rattle.edt_run.specs.declared.sources.Stop.TheVariants as stop
-use Rattle.edt_run.specs.Answer.{AreFiles, AreOf, Given, IsGivenTo, all_listed, but_last, last_alone, defs_limit, file_limit, file_rule, files_limit, first_above, first_full, first_over, first_past, limit_passed, listed, names_limit, names_of, or_else, source_limit, text_limit, too_long, with_content}
-use Rattle.edt_run.specs.Job.{JobData}
-use Rattle.edt_run.specs.Promises.{IsReadOf}
-use Rattle.edt_run.specs.Reading.{AreAbove, AreFilesRead, AreListed, AreOver, ArePast, AreRead, AreTogether, Held, IsAbove, IsFileStop, IsGroupStop, IsListAmong, IsListStop, IsPast, IsRead, IsReadAmong, IsReadStop, IsSourceStop, IsStopBy, ReadData}
+use Rattle.edt_run.specs.Answer.{AreOf, but_last, last_alone, defs_limit, first_above, or_else, source_limit, text_limit, too_long}
+use Rattle.edt_run.specs.Reading.{AreAbove, ArePast, AreRead, AreTogether, Held, IsAbove, IsGroupStop, IsReadAmong, IsSourceStop, IsStopBy}
 
 -- ---- lists for names, one name after another
 

@@ -1,5 +1,5 @@
 -- The steps of `dts` lead to its answer.
-use Rattle.std.proofs.Common.{◌≡◌, ◌+◌, ◌-◌, ◌^◌, min, ◌≤◌, ◌<◌, ◌++◌, ◌∙◌, ℕ, zero, suc, get_or, add-one, Bool, true, false, List, [], ◌∷◌, Result, Ok, Err, length, drop, codes, nat_eq, refl, sym, ap, subst, inl, inr, arith, append_assoc}
+use Rattle.std.proofs.Common.{◌≡◌, ◌+◌, ◌-◌, ◌^◌, min, ◌≤◌, ◌<◌, ◌++◌, ◌∙◌, ℕ, zero, suc, get_or, add-one, Bool, true, false, List, [], ◌∷◌, Result, Ok, Err, length, drop, nat_eq, refl, sym, ap, subst, inl, inr, arith, append_assoc}
 use Rattle.std.proofs.lemmas.Bool.Decides.{nat_tests}
 use Rattle.std.proofs.lemmas.List.{append-nil, drop_more}
 use Rattle.std.specs.Result.{IfErr, IsErrAnd}
@@ -8,7 +8,6 @@ use Rattle.edt_base.specs.declared.fault.Fault.{Fault}
 use Rattle.edt_base.specs.declared.fault.End.{End}
 use Rattle.edt_base.specs.declared.fault.End.TheVariants as ending
 use Rattle.edt_base.specs.declared.fault.Rule.TheVariants as rule
-use Rattle.edt_base.specs.declared.fault.Place.TheVariants as place
 use Rattle.dts_parse.specs.Source.{BreaksNone, IsFirstFault, IsScript}
 use Rattle.dts_parse.specs.StmtData.{StmtData}
 use Rattle.dts_tree.specs.Outcome.{outcome}

@@ -1,15 +1,13 @@
 -- What the code of `expand` does, step by step.
-use Rattle.std.specs.Prelude.{◌≡◌, ◌++◌, ℕ, Bool, true, false, List, [], ◌∷◌, Option, Some, None, Result, Ok, Err, codes, drop, string_bytes}
+use Rattle.std.specs.Prelude.{◌≡◌, ◌++◌, ℕ, Bool, true, false, List, [], ◌∷◌, Option, Some, None, Ok, Err, codes, drop, string_bytes}
 use Rattle.edt_base.specs.Outside.{SinkSeen, Wrote}
 use Rattle.edt_base.specs.Put.{Put}
 use Rattle.edt_base.specs.declared.fault.End.{End}
 use Rattle.edt_base.specs.declared.fault.End.TheVariants as ending
-use Rattle.edt_base.specs.declared.fault.Fault.{Fault}
 use Rattle.c_tokens.specs.LineData.{LineData}
 use Rattle.c_tokens.specs.Lines.{Unread, Ending, LinesOf}
 use Rattle.c_tokens.specs.Shown.{shown}
 use Rattle.c_macro.specs.Directive.{Known, broken_by, line_directive}
-use Rattle.c_macro.specs.Table.{known_of}
 use Rattle.edt_run.specs.declared.expanding.Next.{Next}
 use Rattle.edt_run.specs.declared.expanding.Next.TheVariants as next
 use Rattle.edt_run.specs.declared.expanding.Halt.{Halt}
@@ -18,7 +16,7 @@ use Rattle.edt_run.specs.declared.expanding.Ended.{Ended}
 use Rattle.edt_run.specs.declared.expanding.Ended.TheVariants as ended
 use Rattle.edt_run.specs.declared.refusal.Refusal.{Refusal}
 use Rattle.edt_run.specs.Answer.{Answer, refused, fault_line, fault_status}
-use Rattle.edt_run.specs.ExpandAnswer.{Breach, breach_fault, nothing_known, known_behind, DefinedFrom, Adds, OutputFrom, IsTextAnswer, IsAnswerOver, IsExpandAnswer}
+use Rattle.edt_run.specs.ExpandAnswer.{Breach, breach_fault, known_behind, DefinedFrom, Adds, OutputFrom, IsTextAnswer, IsAnswerOver, IsExpandAnswer}
 
 -- a line is the next of a text, and this is left behind it
 abbrev pub Goes : Unread → LineData → Unread → Type 0

@@ -1,5 +1,5 @@
 -- What the code of `dts` answers, step by step.
-use Rattle.std.specs.Prelude.{◌≡◌, ◌≤◌, ℕ, true, List, Result, Ok, Err, length}
+use Rattle.std.specs.Prelude.{◌≤◌, ℕ, true, List, Result, Ok, Err, length}
 use Rattle.edt_base.specs.TreeData.{TreeData}
 use Rattle.edt_base.specs.declared.fault.End.{End}
 use Rattle.edt_base.specs.declared.fault.End.TheVariants as ending

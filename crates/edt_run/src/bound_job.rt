@@ -65,11 +65,7 @@ fn compats_of(alloc: Global, tree: &Tree) -> Result<Vec<Text>, AllocError>
 }
 
 /// Adds the compatible strings of a node.
-fn add_compats(
-    alloc: Global,
-    node: &NodeRec,
-    compats: &mut Vec<Text>,
-) -> Result<(), AllocError>
+fn add_compats(alloc: Global, node: &NodeRec, compats: &mut Vec<Text>) -> Result<(), AllocError>
     ensures { OnOk result (compats.new.items ≡ compats.old.items ++ node.now.compats) }
 {
     for compat in &node.compats {

@@ -87,12 +87,28 @@ fn over_read(alloc: Global, job: &Job, read: Read) -> Result<Decision, AllocErro
 {
     job.has_names();
     let Read { sources, files } = read;
-    let sources = sources.as_slice();
-    match job.cmd {
-        Cmd::Gen => bound_header(alloc, &job.names, sources, files),
-        Cmd::Check => tested(alloc, &job.names, sources, files),
-        Cmd::Dts => left_tree(alloc, &job.names, sources),
-        Cmd::Expand => text_lines(alloc, job.names.as_slice(), sources),
+    over_parts(alloc, job.cmd, &job.names, sources.as_slice(), files)
+}
+
+/// What a command does over these sources and binding files.
+fn over_parts(
+    alloc: Global,
+    cmd: Cmd,
+    names: &Vec<Text>,
+    sources: &[Bytes],
+    files: Vec<(Text, Bytes)>,
+) -> Result<Decision, AllocError>
+    requires some { 0 < length names.now.items }
+    requires as_many { length sources.now ≡ length names.now.items }
+    requires few { length files.items ≤ names_limit }
+    ensures { IfOk result (λ d. LeadsTo (is_early cmd) d (IsAnswerOf cmd names.now.items
+        (given_by (record { sources = sources.now; files = files.items })))) }
+{
+    match cmd {
+        Cmd::Gen => bound_header(alloc, names, sources, files),
+        Cmd::Check => tested(alloc, names, sources, files),
+        Cmd::Dts => left_tree(alloc, names, sources),
+        Cmd::Expand => text_lines(alloc, names.as_slice(), sources),
     }
 }
 

@@ -81,7 +81,13 @@ pub(crate) fn read_job<F: Files>(alloc: Global, job: &Job, files: &mut F) -> Res
     ensures count { (F.seen files.old).faults ≤ (F.seen files.new).faults }
 {
     job.has_names();
-    read_named(alloc, job.cmd, job.dirs.as_slice(), job.names.as_slice(), files)
+    read_named(
+        alloc,
+        job.cmd,
+        job.dirs.as_slice(),
+        job.names.as_slice(),
+        files,
+    )
 }
 
 /// What a command reads with these folders and sources, or why reading it stopped.
@@ -177,11 +183,7 @@ fn read_together<F: Files>(
 
 /// The names of the binding files that the folders list, a folder after the other, or why listing
 /// them stopped.
-fn list_folders<F: Files>(
-    alloc: Global,
-    dirs: &[Text],
-    files: &mut F,
-) -> Result<Vec<Text>, Stop>
+fn list_folders<F: Files>(alloc: Global, dirs: &[Text], files: &mut F) -> Result<Vec<Text>, Stop>
     ensures listed { IfOk result (λ v. AreListed (held_of (F.seen files.old)) dirs.now v.items) }
     ensures stopped { IfErr result (IsListStop (F.seen files.old) (F.seen files.new) dirs.now) }
     ensures held { held_of (F.seen files.new) ≡ held_of (F.seen files.old) }

@@ -22,12 +22,12 @@ pub returns-in_err-bound : goal.returns-in_err-bound
 returns-in_err-bound c =
     let i : Inputs = record { names = c.args.names.now.items; sources = c.args.sources.now; files = c.args.files.items } in
     bound_so i c.from_residual-in_err-bound.result c.in_err-bound.field-0.0 c.from_residual-in_err-bound.ensures.1
-    (stopped_at_bound i c.in_ok-tree.tree c.in_ok-library.library c.in_err-bound.field-0.0 c.in_ok-tree.ensures c.in_ok-library.ensures.loaded c.in_err-bound.ensures.unbound)
+    (stopped_at_bound i c.in_ok-tree.tree c.in_ok-library.library c.in_err-bound.field-0.0 c.in_ok-tree.ensures c.in_ok-library.ensures.loaded c.in_err-bound.ensures.refused)
 
 pub returns-then-measure-gt-HEADER_LIMIT : goal.returns-then-measure-gt-HEADER_LIMIT
 returns-then-measure-gt-HEADER_LIMIT c =
     let i : Inputs = record { names = c.args.names.now.items; sources = c.args.sources.now; files = c.args.files.items } in
     subst (λ f. IsGenAnswer true i (refused f) × IsGenAnswer false i (refused f)) (sym c.in_ok-at_root.ensures)
     (over_limit i c.in_ok-bound.bound c.measure.result
-    (valid_of i c.in_ok-tree.tree c.in_ok-library.library c.in_ok-bound.bound c.in_ok-tree.ensures c.in_ok-library.ensures.loaded c.in_ok-bound.ensures.bound)
+    (valid_of i c.in_ok-tree.tree c.in_ok-library.library c.in_ok-bound.bound c.in_ok-tree.ensures c.in_ok-library.ensures.loaded c.in_ok-bound.ensures.valid)
     c.measure.ensures c.if-measure-gt-HEADER_LIMIT.true)

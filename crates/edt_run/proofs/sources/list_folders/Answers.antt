@@ -1,10 +1,9 @@
-use Rattle.std.proofs.Common.{◌≡◌, ◌∙◌, ◌∷◌, ◌++◌, ◌+◌, ◌-◌, ◌<◌, ◌≤◌, [], suc, refl, sym, ap, subst, length, drop, take, drop-cons, add-one, arith, rules, IfSome, Contains}
+use Rattle.std.proofs.Common.{◌≡◌, ◌∙◌, ◌∷◌, ◌+◌, ◌-◌, ◌<◌, ◌≤◌, suc, refl, sym, ap, subst, length, drop, drop-cons, arith, rules, IfSome}
 use Rattle.std.specs.List.Sorted.{IsPermutation}
-use Rattle.std.proofs.lemmas.List.{take_more}
 use Rattle.edt_base.specs.Outside.{held_of, names_below}
 use Rattle.edt_run.specs.Answer.{listed, names_limit}
 use Rattle.edt_run.specs.Reading.{AreAbove}
-use Rattle.edt_run.proofs.FolderLaws.{IsListing, list_next, listed_above, listed_all}
+use Rattle.edt_run.proofs.FolderLaws.{list_next, listed_above, listed_all}
 use Rattle.edt_run.proofs.SourceLaws.{of_true}
 use Rattle.edt_run.proofs.sources.list_folders.Goals as goal
 

@@ -1,4 +1,3 @@
-use Rattle.std.proofs.Common.{sym}
 use Rattle.edt_run.specs.declared.asked.Cmd.TheVariants as cmd
 use Rattle.edt_run.specs.Reading.{IsSourceStop}
 use Rattle.edt_run.proofs.SourceLaws.{defs_stop, stops_so, text_stop}

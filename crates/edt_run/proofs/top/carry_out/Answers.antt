@@ -7,7 +7,7 @@ use Rattle.head_write.specs.Header.{header_text}
 use Rattle.edt_run.specs.Promises.{writes_early}
 use Rattle.edt_run.specs.Job.{job_of}
 use Rattle.edt_run.specs.Steps.{IsWanted}
-use Rattle.edt_run.proofs.RunLaws.{ran_cut, ran_done, ran_refusal, ran_said, ran_usage, ran_memory, ran_write_failed, is_job, text_plain}
+use Rattle.edt_run.proofs.RunLaws.{ran_cut, ran_done, ran_refusal, ran_usage, ran_memory, ran_write_failed, is_job, text_plain}
 use Rattle.edt_run.proofs.top.carry_out.Goals as goal
 
 pub returns-in-Err : goal.returns-in-Err

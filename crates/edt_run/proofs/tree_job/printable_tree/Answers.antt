@@ -1,6 +1,5 @@
-use Rattle.std.proofs.Common.{◌≡◌, subst, sym}
-use Rattle.edt_base.specs.declared.fault.Rule.TheVariants as rule
-use Rattle.edt_run.specs.Answer.{at_root, refused}
+use Rattle.std.proofs.Common.{subst, sym}
+use Rattle.edt_run.specs.Answer.{refused}
 use Rattle.edt_run.specs.TreeAnswer.{IsTreeAnswer}
 use Rattle.edt_run.proofs.TreeLaws.{over_limit}
 use Rattle.edt_run.proofs.tree_job.printable_tree.Goals as goal

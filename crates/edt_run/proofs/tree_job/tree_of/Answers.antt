@@ -1,5 +1,5 @@
 use Rattle.std.proofs.Common.{◌∙◌, sym, true}
-use Rattle.edt_run.proofs.TreeLaws.{as_many, ends_at_tree}
+use Rattle.edt_run.proofs.TreeLaws.{as_many}
 use Rattle.edt_run.proofs.tree_job.tree_of.Goals as goal
 
 pub build-requires : goal.build-requires
