@@ -50,6 +50,7 @@ pub(crate) fn all_answers(
     ensures all { IfOk result (AreAllAnswers t.now lib.now) }
     ensures refused { IfErr result (IsUnbound t.now lib.now) }
 {
+    t.is_well_formed();
     let typed = match all_typed(alloc, t, lib, m) {
         Ok(typed) => typed,
         Err(end) => return Err(end),

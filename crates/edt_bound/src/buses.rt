@@ -1,11 +1,11 @@
 //! The buses that all nodes are on.
 
-ghost use Rattle.std.specs.Prelude.{◌≡◌, ◌<◌, [], IfOk, IfSome, length, map, unwrap_or};
+ghost use Rattle.std.specs.Prelude.{◌≡◌, ◌<◌, [], IfOk, IfSome, length, map, slice_get, unwrap_or};
 ghost use Rattle.std.specs.List.{range_with_len};
 ghost use Rattle.std.specs.Option.{option_map_or};
 ghost use Rattle.bind_merge.specs.ViewData.{buses_in};
 ghost use Rattle.edt_bound.specs.Assembling.{bus_at, named_at};
-ghost use Rattle.pha_nexus.specs.Matching.{IsMatches};
+ghost use Rattle.pha_nexus.specs.Matching.{IsMatches, there};
 
 use bind_merge::{Library, View};
 use edt_base::{NodeId, Text, Tree};
@@ -63,9 +63,16 @@ fn bus_at(
     requires matches { IsMatches t.now.nodes lib.now m.now }
     ensures { IfOk result (λ b. b ≡ bus_at t.now.nodes lib.now id) }
 {
-    let node = m.bus[id.0 as usize];
+    t.is_well_formed();
+    let node = bus_node(m, id);
     let names = names_at(alloc, t, lib, m, node)?;
     Ok(OnBus { node, names })
+}
+
+fn bus_node(m: &Matches, id: NodeId) -> Option<NodeId>
+    ensures { result ≡ there (slice_get m.now.bus id) }
+{
+    *m.bus.get(id.0 as usize)?
 }
 
 // The buses that the binding of a bus node names.

@@ -1,12 +1,13 @@
 //! The entries of the phandle-arrays of all nodes.
 
 ghost use Rattle.std.specs.Prelude.{◌≡◌, ◌<◌, IfErr, IfOk, Ok, length, option_and_then};
-ghost use Rattle.std.specs.Prelude.{option_map, unwrap_or};
+ghost use Rattle.std.specs.Prelude.{codes, nat_eq, option_map, unwrap_or};
+ghost use Rattle.std.specs.List.{ends_with};
 ghost use Rattle.edt_base.specs.Nodes.{path_at};
 ghost use Rattle.edt_base.specs.Refusals.{IsRefused};
 ghost use Rattle.bind_merge.specs.Checks.{is_phandle_array};
 ghost use Rattle.edt_bound.specs.Entering.{all_entered, entered, entries_at, space_given};
-ghost use Rattle.edt_bound.specs.Entering.{space_named};
+ghost use Rattle.edt_bound.specs.Entering.{space_named, without_s};
 ghost use Rattle.edt_bound.specs.Phases.{AreAnswers, IsPhaseEnd};
 ghost use Rattle.edt_bound.specs.Typing.{typed_at};
 ghost use Rattle.pha_nexus.specs.Matching.{IsMatches, binding_at};
@@ -156,9 +157,22 @@ fn space_given<'a>(name: &Text, view: &Option<View<'a>>) -> Option<&'a Text>
 fn space_named(name: &str) -> &str
     ensures { result.now ≡ space_named name.now }
 {
-    if name.ends_with("gpios") {
-        return "gpio";
+    if is_gpios(name) {
+        "gpio"
+    } else {
+        without_s(name)
     }
+}
+
+fn is_gpios(name: &str) -> bool
+    ensures { result ≡ ends_with nat_eq name.now (codes "gpios") }
+{
+    name.ends_with("gpios")
+}
+
+fn without_s(name: &str) -> &str
+    ensures { result.now ≡ without_s name.now }
+{
     match name.strip_suffix("s") {
         Some(space) => space,
         None => name,
