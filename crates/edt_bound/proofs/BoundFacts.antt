@@ -4,7 +4,8 @@ use Rattle.std.specs.Option.{option_map_or}
 use Rattle.std.specs.List.{Contains, range_with_len}
 use Rattle.std.specs.List.Sorted.{IsPermutation, IsStrictlyIncreasing}
 use Rattle.std.specs.declared.alloc.Global.{Global}
-use Rattle.std.proofs.lemmas.List.FromFn.{length-map-range_with_len}
+use Rattle.std.proofs.lemmas.List.FromFn.{length-map-range_with_len, length-range_with_len}
+use Rattle.std.proofs.lemmas.List.Sorted.{length_permutation}
 use Rattle.std.proofs.lemmas.List.Elements.{All-nil, All-contains}
 use Rattle.std.proofs.lemmas.List.{length-replicate}
 use Rattle.std.proofs.lemmas.Option.{slice_get_within, get_or_from_slice_get}
@@ -320,3 +321,24 @@ stuck_told t lib bound needs supports (ending.Fault f) h n s r =
     (sym (map_many (λ (v : Vec ℕ Global). v.items) needs) ∙ n.as_many) (s.as_many ∙ n.as_many) many in
     in_order (linked bound needs supports (replicate (length bound) 0)) (nodes_bound t lib bound needs supports (replicate (length bound) 0) h n s many)
     (subst (λ (ns : List (List ℕ)). IsFirstStuck t.nodes ns f) (sym (needs_are bound needs supports (replicate (length bound) 0) l)) r)
+
+-- ---- what the calls ask for
+
+pub count_of : {X : Type 0} (xs ys : List X) (n : ℕ) → xs ≡ ys → length ys ≡ n → length xs ≡ n
+count_of xs ys n e l = ap length e ∙ l
+
+pub order_many : (order : List ℕ) (n : ℕ) → IsPermutation order (range_with_len 0 n) → length order ≡ n
+order_many order n p = sym (length_permutation order (range_with_len 0 n) p) ∙ length-range_with_len 0 n
+
+pub once_of : (order seen : List ℕ) (n : ℕ) → IsPermutation order (range_with_len 0 n) → seen ≡ order → IsPermutation seen (range_with_len 0 (length seen))
+once_of order seen n p e =
+    subst (λ (xs : List ℕ). IsPermutation xs (range_with_len 0 (length xs))) (sym e)
+    (subst (λ (k : ℕ). IsPermutation order (range_with_len 0 k)) (sym (order_many order n p)) p)
+
+pub needs_many : (t : TreeData) (lib : LibData) (bound : List BoundNodeData) (needs : List (Vec ℕ Global)) → AreAnswered t lib bound → AreAllNeeds t.nodes bound (lists needs)
+    → length needs ≡ length t.nodes
+needs_many t lib bound needs h n = sym (map_many (λ (v : Vec ℕ Global). v.items) needs) ∙ n.as_many ∙ answered_many t lib bound h
+
+pub needs_there : (t : TreeData) (lib : LibData) (bound : List BoundNodeData) (needs : List (Vec ℕ Global)) → AreAnswered t lib bound → AreAllNeeds t.nodes bound (lists needs)
+    → AreWithin (lists needs)
+needs_there t lib bound needs h n = needs_within (lists needs) (length t.nodes) n.within (sym (n.as_many ∙ answered_many t lib bound h))

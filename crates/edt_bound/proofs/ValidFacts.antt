@@ -1,5 +1,5 @@
 -- The bound tree and its end.
-use Rattle.std.proofs.Common.{◌≡◌, ◌∙◌, ◌+◌, ◌<◌, [], ℕ, List, length, refl, sym, ap, subst, arith}
+use Rattle.std.proofs.Common.{◌≡◌, ◌∙◌, ◌+◌, ◌<◌, [], ℕ, List, length, refl, slice_get, sym, ap, subst, arith, Some, Option, option_map, unwrap_or}
 use Rattle.std.specs.List.Sorted.{IsStrictlyIncreasing}
 use Rattle.edt_base.specs.BoundData.{BoundData, IsBound}
 use Rattle.edt_base.specs.BoundNodeData.{BoundNodeData}
@@ -80,3 +80,6 @@ first_clash b node (ending.Fault g) h c f = record {
   clash = c;
   is_at = record { there = clash_there b node h c; is_rule = f.0; is_place = f.1 };
 }
+
+pub path_there : (nodes : List NodeData) (id : ℕ) (n : NodeData) → slice_get nodes id ≡ Some n → path_at nodes id ≡ n.path
+path_there nodes id n at = ap (λ (o : Option NodeData). unwrap_or (option_map (λ (m : NodeData). m.path) o) []) at

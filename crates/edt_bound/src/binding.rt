@@ -21,6 +21,7 @@ use bind_merge::Library;
 use dt_names::{Clash, clash};
 use edt_base::{Bound, BoundNode, End, NodeId, Rule, Tree};
 use pha_nexus::Matches;
+use prop_types::declared_properties_are_held;
 use std::alloc::Global;
 
 /// The bound tree of a tree, by a library whose last `load` was for the tree's compatible strings
@@ -40,6 +41,7 @@ pub fn bind(alloc: Global, t: Tree, lib: &Library) -> Result<Bound, End>
     ensures valid { IfOk result (IsValid t lib.now (asked_of t lib.now)) }
     ensures refused { IfErr result (IsUnbound t lib.now) }
 {
+    t.is_well_formed();
     let (nodes, order) = match bound_nodes(alloc, &t, lib) {
         Ok(bound) => bound,
         Err(end) => return Err(end),
@@ -62,6 +64,7 @@ fn bound_nodes(
     ensures bound { IfOk result (λ r. AreBound t.now lib.now r.0.items r.1.items) }
     ensures refused { IfErr result (IsUnbound t.now lib.now) }
 {
+    t.is_well_formed();
     let m = matches(alloc, t, lib)?;
     let nodes = match answered_nodes(alloc, t, lib, &m) {
         Ok(nodes) => nodes,
@@ -90,6 +93,9 @@ fn answered_nodes(
     ensures answered { IfOk result (λ v. AreAnswered t.now lib.now v.items) }
     ensures refused { IfErr result (IsUnbound t.now lib.now) }
 {
+    t.is_well_formed();
+    // The names that a binding declares stand in order.
+    declared_properties_are_held();
     let answers = match all_answers(alloc, t, lib, m) {
         Ok(answers) => answers,
         Err(end) => return Err(end),
@@ -104,6 +110,7 @@ fn without_clash(alloc: Global, b: Bound) -> Result<Bound, End>
     ensures free { IfOk result (IsWithoutClash b) }
     ensures clash { IfErr result (IsClashTold b) }
 {
+    b.is_bound();
     match clash(alloc, &b)? {
         Clash::At(id) => Err(b.tree.node(id).fault(alloc, Rule::V37)),
         Clash::Doubles(doubles) => Ok(with_doubles(b, doubles)),

@@ -64,9 +64,11 @@ fn bus_at(
     ensures { IfOk result (λ b. b ≡ bus_at t.now.nodes lib.now id) }
 {
     t.is_well_formed();
-    let node = bus_node(m, id);
-    let names = names_at(alloc, t, lib, m, node)?;
-    Ok(OnBus { node, names })
+    let names = names_at(alloc, t, lib, m, bus_node(m, id))?;
+    Ok(OnBus {
+        node: bus_node(m, id),
+        names,
+    })
 }
 
 fn bus_node(m: &Matches, id: NodeId) -> Option<NodeId>
