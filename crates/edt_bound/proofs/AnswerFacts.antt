@@ -1,14 +1,12 @@
 -- How the phases come one after another.
-use Rattle.std.proofs.Common.{◌≡◌, ◌<◌, ℕ, List, Result, length}
-use Rattle.std.specs.Result.{IsOk}
-use Rattle.edt_base.specs.PropData.{PropData}
+use Rattle.std.proofs.Common.{ℕ, List, Result, length}
 use Rattle.edt_base.specs.TreeData.{TreeData}
 use Rattle.edt_base.specs.declared.fault.End.{End}
 use Rattle.edt_base.specs.declared.fault.End.TheVariants as ending
 use Rattle.edt_base.specs.declared.fault.Rule.{Rule}
 use Rattle.bind_merge.specs.LibraryData.{LibData}
 use Rattle.irq_map.specs.Interrupts.{irqs_of}
-use Rattle.edt_bound.specs.Addresses.{AddressData, addresses_of}
+use Rattle.edt_bound.specs.Addresses.{addresses_of}
 use Rattle.edt_bound.specs.Binding.{IsUnbound}
 use Rattle.edt_bound.specs.BoundTree.{in_addresses, in_entries, in_irqs, in_props}
 use Rattle.edt_bound.specs.Entering.{entries_at}

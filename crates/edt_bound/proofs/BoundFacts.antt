@@ -1,5 +1,5 @@
 -- How bound nodes come from the answers of the phases, and what they keep.
-use Rattle.std.proofs.Common.{◌≡◌, ◌∙◌, ◌+◌, ◌<◌, ◌↔◌, ◌∷◌, [], ℕ, zero, suc, List, Option, Some, None, Result, Ok, IfSome, All, Vec, length, map, replicate, slice_get, slice_index_or, zip, refl, sym, ap, subst, arith}
+use Rattle.std.proofs.Common.{◌≡◌, ◌∙◌, ◌<◌, ◌↔◌, [], ℕ, List, Option, Some, None, Ok, IfSome, All, Vec, length, map, replicate, slice_get, slice_index_or, zip, refl, sym, ap, subst, arith}
 use Rattle.std.specs.Option.{option_map_or}
 use Rattle.std.specs.List.{Contains, range_with_len}
 use Rattle.std.specs.List.Sorted.{IsPermutation, IsStrictlyIncreasing}
@@ -11,8 +11,7 @@ use Rattle.std.proofs.lemmas.List.{length-replicate}
 use Rattle.std.proofs.lemmas.Option.{slice_get_within, get_or_from_slice_get}
 use Rattle.edt_base.specs.BoundNodeData.{BoundNodeData, IsBoundNode}
 use Rattle.edt_base.specs.EntryData.{EntryData}
-use Rattle.edt_base.specs.NodeData.{NodeData}
-use Rattle.edt_base.specs.PropData.{IsTyped, PropData}
+use Rattle.edt_base.specs.PropData.{PropData}
 use Rattle.edt_base.specs.TreeData.{IsWellFormed, TreeData}
 use Rattle.edt_base.specs.declared.fault.End.{End}
 use Rattle.edt_base.specs.declared.fault.End.TheVariants as ending
@@ -21,17 +20,17 @@ use Rattle.dep_order.specs.Order.{AreWithin, IsOrder, required}
 use Rattle.dep_order.specs.Turns.{lists}
 use Rattle.dep_order.proofs.Listing.{none_in}
 use Rattle.irq_map.specs.Interrupts.{irqs_of}
-use Rattle.pha_nexus.specs.Matching.{Bus, match_at, names_on}
+use Rattle.pha_nexus.specs.Matching.{match_at, names_on}
 use Rattle.prop_types.specs.Held.{DeclaredAreHeld}
 use Rattle.edt_bound.specs.Addresses.{AddressData, addresses_of}
 use Rattle.edt_bound.specs.Assembling.{AnswersData, AreAllAnswers, AreAllNeeds, AreAnswered, AreBound, AreOrdinals, BusData, bus_at, linked, linked_node, linked_part, unlinked, unlinked_part}
 use Rattle.edt_bound.specs.Binding.{IsUnbound, asked_of}
-use Rattle.edt_bound.specs.BoundTree.{AreBoundNodes, IsFirstFault, addresses_in, bus_node, buses_in_order, in_order, needs_in}
+use Rattle.edt_bound.specs.BoundTree.{AreBoundNodes, addresses_in, bus_node, in_order, needs_in}
 use Rattle.edt_bound.specs.Entering.{entries_at}
 use Rattle.edt_bound.specs.Loading.{IsLoadedFor}
 use Rattle.edt_bound.specs.Ordering.{IsFirstStuck, IsOrderRefused}
 use Rattle.edt_bound.specs.Phases.{AreAnswers}
-use Rattle.edt_bound.specs.Relating.{AreNeedsOf, AreSupportsOf}
+use Rattle.edt_bound.specs.Relating.{AreSupportsOf}
 use Rattle.edt_bound.specs.Requiring.{AreNeeds, AreSupports, Requires, needs_at}
 use Rattle.edt_bound.proofs.BusFacts.{bus_there}
 use Rattle.edt_bound.proofs.EnterSteps.{answer_at, answers_many}

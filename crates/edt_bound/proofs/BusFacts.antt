@@ -1,14 +1,13 @@
 -- The bus that a node is on, by the table of matches.
 use Rattle.std.proofs.Common.{◌≡◌, ◌∙◌, ◌<◌, [], ℕ, List, Option, Some, None, IfSome, length, option_and_then, option_map, slice_get, unwrap_or, refl, sym, ap, subst, arith}
-use Rattle.std.specs.List.{range_with_len}
 use Rattle.std.specs.Option.{option_map_or}
 use Rattle.edt_base.specs.NodeData.{NodeData}
 use Rattle.edt_base.specs.TreeData.{IsWellFormed, TreeData}
 use Rattle.bind_merge.specs.LibraryData.{LibData}
 use Rattle.bind_merge.specs.ViewData.{buses_in}
-use Rattle.pha_nexus.specs.Matching.{Binding, Bus, IsMatches, MatchesData, binding_at, buses_of, levels_at, match_at, names_on, there}
+use Rattle.pha_nexus.specs.Matching.{Binding, Bus, IsMatches, MatchesData, buses_of, levels_at, match_at, names_on, there}
 use Rattle.pha_nexus.proofs.MatchLaws.{IsBusAt, good_match}
-use Rattle.edt_bound.specs.Assembling.{BusData, bus_at, named_at}
+use Rattle.edt_bound.specs.Assembling.{bus_at, named_at}
 use Rattle.edt_bound.specs.BoundTree.{bus_node}
 use Rattle.edt_bound.proofs.MatchSteps.{value_at}
 
@@ -47,14 +46,14 @@ names_are t lib id well = by (match_at t.nodes lib id).bus refl
         let law = (subst (IsBusAt t.nodes lib id) e (good_match t lib id well).1).1 in
         ap (λ (o : Option (List (List ℕ))). unwrap_or o []) (same_buses lib (match_at t.nodes lib bus.node).binding ∙ law)
 
-pub bus_is : (t : TreeData) (lib : LibData) (id : ℕ) (node : Option ℕ) (names : List (List ℕ)) → IsWellFormed t → node ≡ bus_node (match_at t.nodes lib id).bus
-    → names ≡ option_map_or (named_at t.nodes lib) node [] → record { node = node; names = names } ≡ bus_at t.nodes lib id
-bus_is t lib id node names well is named =
+pub bus_is : (t : TreeData) (lib : LibData) (id : ℕ) (up : Option ℕ) (names : List (List ℕ)) → IsWellFormed t → up ≡ bus_node (match_at t.nodes lib id).bus
+    → names ≡ option_map_or (named_at t.nodes lib) up [] → record { node = up; names = names } ≡ bus_at t.nodes lib id
+bus_is t lib id up names well is named =
     ap (λ (o : Option ℕ). record { node = o; names = names }) is
     ∙ ap (λ (ns : List (List ℕ)). record { node = bus_node (match_at t.nodes lib id).bus; names = ns })
     (named ∙ ap (λ (o : Option ℕ). option_map_or (named_at t.nodes lib) o []) is ∙ names_are t lib id well)
 
-pub node_there : (t : TreeData) (lib : LibData) (m : MatchesData) (id : ℕ) (node : Option ℕ) → IsWellFormed t → IsMatches t.nodes lib m → id < length t.nodes
-    → node ≡ there (slice_get m.bus id) → IfSome node (λ up. up < length t.nodes)
-node_there t lib m id node well h l e =
+pub node_there : (t : TreeData) (lib : LibData) (m : MatchesData) (id : ℕ) (up : Option ℕ) → IsWellFormed t → IsMatches t.nodes lib m → id < length t.nodes
+    → up ≡ there (slice_get m.bus id) → IfSome up (λ k. k < length t.nodes)
+node_there t lib m id up well h l e =
     subst (λ (o : Option ℕ). IfSome o (λ up. up < length t.nodes)) (sym (e ∙ at_bus t.nodes lib m id h l)) (bus_there t lib id well l)

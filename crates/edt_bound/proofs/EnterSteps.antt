@@ -1,9 +1,8 @@
 -- How entries are put into typed properties, one after another.
-use Rattle.std.proofs.Common.{◌≡◌, ◌∙◌, ◌-◌, ◌+◌, ◌<◌, ◌++◌, ◌∷◌, [], ℕ, Bool, true, false, cond, List, Option, Some, None, Result, Ok, Err, IfErr, Bor, MatchOption, codes, length, map, take, nat_eq, option_and_then, option_map, slice_get, unwrap_or, refl, sym, ap, subst, suc, arith}
-use Rattle.std.specs.List.{ends_with, range_with_len}
+use Rattle.std.proofs.Common.{◌≡◌, ◌∙◌, ◌-◌, ◌<◌, ◌++◌, ◌∷◌, [], ℕ, Bool, true, false, cond, List, Option, Some, None, Result, Ok, Err, IfErr, Bor, MatchOption, codes, length, map, take, nat_eq, option_and_then, option_map, slice_get, unwrap_or, refl, sym, ap, subst, suc, arith}
+use Rattle.std.specs.List.{ends_with}
 use Rattle.std.specs.Str.Pattern.{FindsTextSuffix, StripsSuffix}
 use Rattle.std.proofs.lemmas.Option.{slice_get-map, slice_get_within}
-use Rattle.edt_base.specs.EntryData.{EntryData}
 use Rattle.edt_base.specs.NodeData.{NodeData}
 use Rattle.edt_base.specs.PropData.{PropData}
 use Rattle.edt_base.specs.Refusals.{IsRefused}

@@ -1,8 +1,7 @@
 -- The entries of phandle-arrays end at nodes that are there.
-use Rattle.std.proofs.Common.{◌≡◌, ◌∙◌, ◌+◌, ◌<◌, ◌&&◌, ◌++◌, ◌∷◌, [], ℕ, zero, suc, Bool, true, false, cond, List, Option, Some, None, Result, Ok, Err, IfSome, All, codes, drop, length, map, nat_eq, nat_lt, position, take, zip, refl, sym, ap, subst, arith, if◌then◌else◌}
+use Rattle.std.proofs.Common.{◌≡◌, ◌+◌, ◌<◌, ◌&&◌, ◌∷◌, [], ℕ, zero, suc, Bool, true, false, cond, List, Option, Some, None, Result, Ok, Err, IfSome, All, drop, length, nat_eq, nat_lt, position, take, zip, refl, subst, arith, if◌then◌else◌}
 use Rattle.std.specs.List.{position_or_len}
 use Rattle.std.specs.Option.{option_map_or}
-use Rattle.std.specs.Str.{bytes_eq}
 use Rattle.std.proofs.lemmas.Bool.Decides.{nat_tests}
 use Rattle.std.proofs.lemmas.List.Elements.{All-nil, All-cons}
 use Rattle.edt_base.specs.EntryData.{EntryData}
@@ -15,8 +14,8 @@ use Rattle.edt_base.specs.declared.node.Part.{Part}
 use Rattle.bind_merge.specs.LibraryData.{LibData}
 use Rattle.pha_nexus.specs.Chain.{followed, followed_within, most_rows, onward}
 use Rattle.pha_nexus.specs.Cutting.{and_entries, cells_behind, cut_after, cut_of, first_entry, specified, specified_at}
-use Rattle.pha_nexus.specs.Naming.{CellNames, and_rest, cell_names, cut_entry, ended, entries_from, entries_in, entries_of, entry_of, if_names_fit, names_at, specified_entry, with_names}
-use Rattle.pha_nexus.specs.Passing.{Hop, hop_by, is_as_long, masked, passed, passed_at, sent}
+use Rattle.pha_nexus.specs.Naming.{CellNames, and_rest, cell_names, cut_entry, ended, entries_from, entries_in, entries_of, if_names_fit, names_at, specified_entry, with_names}
+use Rattle.pha_nexus.specs.Passing.{Hop, hop_by, is_as_long, masked, passed, passed_at}
 use Rattle.pha_nexus.specs.Rows.{Row, and_more, are_same, first_row, has_rest, lead_by, lead_to, row_from, rows_after, rows_of, taken, whole_row}
 use Rattle.pha_nexus.specs.Space.{cells_name, count_at, map_at, mask_at, parent_width, pass_at}
 
@@ -163,6 +162,7 @@ within_below (suc left) nodes space at spec l = by (map_at nodes space at) (λ n
         → IsEndBelow (length nodes) (onward r (λ hop. followed_within left nodes space hop.node hop.spec))
     on (Err b) h more = tt
     on (Ok hop) h more = more hop.node hop.spec h
+
     by : (o : Option (List Part)) → ((node : ℕ) (rest : List ℕ) → node < length nodes → IsEndBelow (length nodes) (followed_within left nodes space node rest))
         → IsEndBelow (length nodes) (option_map_or
         (λ (table : List Part). onward (passed_at nodes space at spec table) (λ hop. followed_within left nodes space hop.node hop.spec)) o
@@ -227,6 +227,7 @@ entries_below nodes lib id name space entries h = by_value (prop_at nodes id nam
   where
     names : CellNames
     names = cell_names nodes lib space
+
     by_fit : (o : Option (List Part)) (value : List Part) (r : Result (List (Option EntryData)) Rule)
         → entries_from nodes space names (name_parts o) 0 (cut_of nodes space value) ≡ r → if_names_fit o r ≡ Ok entries → All (IsEntryBelow (length nodes)) entries
     by_fit o value (Err b) is f = absurd (cc)
@@ -235,6 +236,7 @@ entries_below nodes lib id name space entries h = by_value (prop_at nodes id nam
         subst (All (IsEntryBelow (length nodes))) same
         (all_below nodes space names (name_parts o) 0 (cut_of nodes space value) found
         (cuts_below nodes space (has_rest (length (bytes_of value))) 0 (value_cells value)) is)
+
     by_value : (o : Option (List Part)) → option_map_or (entries_in nodes space names (names_at nodes id name space)) o (Ok []) ≡ Ok entries
         → All (IsEntryBelow (length nodes)) entries
     by_value None f =

@@ -1,5 +1,5 @@
 -- What each node requires, one after another.
-use Rattle.std.proofs.Common.{◌≡◌, ◌∙◌, ◌+◌, ◌<◌, ◌++◌, ◌⊎◌, ◌∷◌, [], ℕ, zero, suc, List, Some, All, Vec, length, map, take, slice_get, refl, sym, ap, subst, inl, inr, arith}
+use Rattle.std.proofs.Common.{◌≡◌, ◌∙◌, ◌+◌, ◌<◌, ◌++◌, ◌⊎◌, ◌∷◌, [], ℕ, zero, suc, List, Some, All, Vec, length, take, slice_get, refl, sym, ap, subst, inl, inr, arith}
 use Rattle.std.specs.List.Sorted.{IsStrictlyIncreasing}
 use Rattle.std.specs.declared.alloc.Global.{Global}
 use Rattle.std.proofs.Math.Seq.{take-suc}
@@ -63,10 +63,10 @@ needs_more nodes bound all more place n new h at needs rising within added =
             | inr end ↦ elim (push_cases (lists all) new.items id ids (sym (ap (λ (xs : List (List ℕ)). slice_get xs id) told) ∙ given)) [
               | inl kept ↦ absurd (omega (arith, slice_get_within (lists all) id ids kept, end.0, h.as_many))
               | inr last ↦
-                let same : place ≡ id = sym (end.0 ∙ many) in
-                subst (λ (k : ℕ). AreNeedsOf nodes m.props m.irqs k ids) same
-                (subst (λ (xs : List ℕ). AreNeedsOf nodes m.props m.irqs place xs) last.1
-                (subst (λ (b : BoundNodeData). AreNeedsOf nodes b.props b.irqs place new.items) end.1 needs))
+                  let same : place ≡ id = sym (end.0 ∙ many) in
+                  subst (λ (k : ℕ). AreNeedsOf nodes m.props m.irqs k ids) same
+                  (subst (λ (xs : List ℕ). AreNeedsOf nodes m.props m.irqs place xs) last.1
+                  (subst (λ (b : BoundNodeData). AreNeedsOf nodes b.props b.irqs place new.items) end.1 needs))
             ]
           ];
       rising = push_all IsStrictlyIncreasing (lists all) ns new.items h.rising rising told;

@@ -1,16 +1,15 @@
 -- What the typed properties of a node keep, with their entries: each has a value of its type, and their names rise.
-use Rattle.std.proofs.Common.{◌≡◌, ◌≢◌, ◌∙◌, ◌+◌, ◌<◌, ◌⊎◌, ◌++◌, ◌∷◌, [], ℕ, zero, suc, Bool, true, false, cond, List, Option, Some, None, Result, Ok, Err, IfSome, IsTrue, All, codes, drop, filter, length, map, nat_eq, option_and_then, option_map, slice_get, refl, sym, ap, subst, inl, inr, arith}
+use Rattle.std.proofs.Common.{◌≡◌, ◌∙◌, ◌⊎◌, ◌∷◌, [], ℕ, zero, suc, Bool, true, false, cond, List, Option, Some, None, Result, Ok, Err, IsTrue, All, drop, filter, length, map, nat_eq, option_and_then, option_map, refl, sym, ap, subst, inl, inr}
 use Rattle.std.specs.Cmp.Lexicographic.{slice_cmp}
 use Rattle.std.specs.List.{AllByRecursion}
 use Rattle.std.specs.List.Sorted.{IsStrictlySortedBy}
 use Rattle.std.specs.Ordering.{nat_cmp}
 use Rattle.std.specs.declared.cmp.Ordering.TheVariants.{Less}
-use Rattle.std.proofs.lemmas.Bool.Decides.{nat_tests}
 use Rattle.std.proofs.lemmas.List.Elements.{All-nil, All-cons, All-head, All-tail}
 use Rattle.edt_base.specs.EntryData.{EntryData}
 use Rattle.edt_base.specs.NodeData.{NodeData}
 use Rattle.edt_base.specs.PropData.{IsTyped, PropData}
-use Rattle.edt_base.specs.ValData.{ValData, IsOfType, HasNodesBelow, is_tested, tested_count, entries_val}
+use Rattle.edt_base.specs.ValData.{ValData, IsOfType, is_tested, tested_count, entries_val}
 use Rattle.edt_base.specs.declared.bound.PropType.{PropType}
 use Rattle.edt_base.specs.declared.bound.PropType.TheVariants as type
 use Rattle.edt_base.specs.declared.fault.Rule.{Rule}
@@ -20,9 +19,7 @@ use Rattle.bind_merge.specs.Files.{FileData}
 use Rattle.bind_merge.specs.Levels.{LevelTable}
 use Rattle.bind_merge.specs.LibraryData.{BindingData, LibData, levels_of}
 use Rattle.bind_merge.specs.Listing.{read_files}
-use Rattle.bind_merge.specs.Loading.{AreSound, IsLoaded, IsSound}
-use Rattle.bind_merge.specs.Merging.{IsMerged}
-use Rattle.bind_merge.specs.ViewData.{child_in}
+use Rattle.bind_merge.specs.Loading.{AreSound}
 use Rattle.prop_types.specs.Broken.{ArePropsOf}
 use Rattle.prop_types.specs.Declaring.{declared_in}
 use Rattle.prop_types.specs.Held.{AreInOrder, DeclaredAreHeld, IsBeforeAll}
@@ -188,6 +185,7 @@ entered_kept nodes lib id p q kept e = by (is_phandle_array p.ty) refl e
     by_entries array (Ok entries) is f =
         filled (length nodes) p q entries array kept (entries_below nodes lib id p.name (space_at nodes lib id p.name) entries is)
         (same_ok (record { name = p.name; ty = p.ty; val = entries_val entries; choices = p.choices }) q f)
+
     by : (b : Bool) → is_phandle_array p.ty ≡ b → cond b (with_entries p (entries_of nodes lib id p.name (space_at nodes lib id p.name))) (Ok p) ≡ Ok q
         → IsSameProp (length nodes) p q
     by true array f = by_entries (is_array p.ty array) (entries_of nodes lib id p.name (space_at nodes lib id p.name)) refl f

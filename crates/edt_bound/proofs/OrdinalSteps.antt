@@ -1,6 +1,6 @@
 -- Ordinals: the places of an order.
-use Rattle.std.proofs.Common.{◌≡◌, ◌≢◌, ◌==◌, ◌∙◌, ◌+◌, ◌<◌, ℕ, Bool, true, false, List, Some, length, get_or, slice_get, slice_set, refl, sym, ap, subst, arith, length-set}
-use Rattle.std.specs.List.{Contains, range_with_len}
+use Rattle.std.proofs.Common.{◌≡◌, ◌≢◌, ◌==◌, ◌∙◌, ◌+◌, ◌<◌, ℕ, Bool, true, false, List, Some, length, get_or, slice_get, slice_set, refl, sym, ap, arith, length-set}
+use Rattle.std.specs.List.{range_with_len}
 use Rattle.std.specs.List.Sorted.{IsPermutation}
 use Rattle.std.proofs.lemmas.Bool.Decides.{nat_tests}
 use Rattle.std.proofs.lemmas.List.{get_or-set_same, get_or-set_other}
@@ -53,6 +53,6 @@ all_placed order ords p many h = record {
   places = λ id ord given.
       let inside : id < length order = omega (arith, many, slice_get_within ords id ord given) in
       let at = place_of order id (Contains-permutation (range_with_len 0 (length order)) order id (IsPermutation-sym order (range_with_len 0 (length order)) p)
-          (in_range (length order) id inside)) in
+      (in_range (length order) id inside)) in
       h at.0 id ord (slice_get_within order at.0 id at.1) at.1 given;
 }

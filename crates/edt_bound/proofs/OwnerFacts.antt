@@ -1,9 +1,8 @@
 -- Each definition of a bound tree belongs to a node that is there.
-use Rattle.std.proofs.Common.{◌≡◌, ◌∙◌, ◌+◌, ◌<◌, ◌++◌, ◌∷◌, [], ℕ, zero, suc, Bool, true, false, cond, List, Option, Some, None, All, codes, filter, length, map, nat_lt, option_map, slice_get, unwrap_or, refl, sym, ap, subst, arith}
-use Rattle.std.specs.List.{Contains, flat_map, range_with_len}
+use Rattle.std.proofs.Common.{◌≡◌, ◌∙◌, ◌+◌, ◌<◌, ◌++◌, ◌∷◌, [], ℕ, Bool, true, false, cond, List, Option, Some, None, All, codes, filter, length, map, nat_lt, option_map, slice_get, unwrap_or, refl, sym, ap, subst, arith}
+use Rattle.std.specs.List.{flat_map, range_with_len}
 use Rattle.std.specs.Option.{IsSomeAnd, option_map_or}
 use Rattle.std.proofs.lemmas.List.Elements.{All-nil, All-cons, All-append, All-head, All-tail}
-
 use Rattle.std.proofs.lemmas.Option.{slice_get_within}
 use Rattle.edt_base.specs.BoundData.{BoundData, IsBound}
 use Rattle.edt_base.specs.BoundNodeData.{BoundNodeData, buses_on}
@@ -11,15 +10,14 @@ use Rattle.edt_base.specs.EntryData.{EntryData}
 use Rattle.edt_base.specs.InstData.{InstData}
 use Rattle.edt_base.specs.Instances.{IsInst, instances_of, listing, lists_at}
 use Rattle.edt_base.specs.NodeData.{NodeData}
-use Rattle.edt_base.specs.Nodes.{is_okay, okay_of}
+use Rattle.edt_base.specs.Nodes.{is_okay}
 use Rattle.edt_base.specs.Ords.{OrdsData, ords_at}
 use Rattle.edt_base.specs.PropData.{PropData}
 use Rattle.edt_base.specs.declared.bound.Range.{Range}
 use Rattle.edt_base.specs.declared.bound.Reg.{Reg}
 use Rattle.dt_names.specs.Clash.{IsClash}
-use Rattle.dt_names.specs.Facts.{Element, FactData, an_entry, an_item, a_node, at_index, cell_facts, child_facts, choice_lines, choice_of, chosen_facts, count_facts, counted, each, elem_choices, elem_facts, elem_lines, elements, entry_facts, facts, helper_facts, inst_facts, irq_facts, irq_lines, is_shown, item_facts, label_facts, link, marked, match_facts, node_facts, node_lines, of_prop, okay_facts, order_facts, path_facts, pha_facts, pha_lines, place_fact, plain, prop_facts, range_facts, reg_facts, reg_lines, shown_facts, there, titled, titled_node, tree_facts, value_body, walks, yes}
+use Rattle.dt_names.specs.Facts.{Element, FactData, an_entry, an_item, a_node, at_index, cell_facts, child_facts, choice_lines, choice_of, chosen_facts, count_facts, counted, each, elem_choices, elem_lines, elements, entry_facts, facts, inst_facts, irq_facts, irq_lines, is_shown, label_facts, link, match_facts, node_facts, of_prop, okay_facts, order_facts, path_facts, pha_lines, place_fact, plain, prop_facts, range_facts, reg_facts, reg_lines, shown_facts, there, titled, titled_node, tree_facts, value_body, walks, yes}
 use Rattle.dt_names.specs.Pieces.{PieceData, form, lit, num}
-
 use Rattle.edt_bound.proofs.Ranges.{range_below}
 use Rattle.edt_bound.proofs.ZipFacts.{all_at}
 

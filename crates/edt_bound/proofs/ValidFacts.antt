@@ -1,5 +1,5 @@
 -- The bound tree and its end.
-use Rattle.std.proofs.Common.{◌≡◌, ◌∙◌, ◌+◌, ◌<◌, [], ℕ, List, length, refl, slice_get, sym, ap, subst, arith, Some, Option, option_map, unwrap_or}
+use Rattle.std.proofs.Common.{◌≡◌, ◌∙◌, [], ℕ, List, refl, slice_get, sym, ap, subst, arith, Some, Option, option_map, unwrap_or}
 use Rattle.std.specs.List.Sorted.{IsStrictlyIncreasing}
 use Rattle.edt_base.specs.BoundData.{BoundData, IsBound}
 use Rattle.edt_base.specs.BoundNodeData.{BoundNodeData}

@@ -55,11 +55,7 @@ pub fn bind(alloc: Global, t: Tree, lib: &Library) -> Result<Bound, End>
 }
 
 // What is bound to each node, and the order of dependencies.
-fn bound_nodes(
-    alloc: Global,
-    t: &Tree,
-    lib: &Library,
-) -> Result<(Vec<BoundNode>, Vec<NodeId>), End>
+fn bound_nodes(alloc: Global, t: &Tree, lib: &Library) -> Result<(Vec<BoundNode>, Vec<NodeId>), End>
     requires { IsLoadedFor t.now.nodes lib.now }
     ensures bound { IfOk result (λ r. AreBound t.now lib.now r.0.items r.1.items) }
     ensures refused { IfErr result (IsUnbound t.now lib.now) }

@@ -94,7 +94,12 @@ fn entered(
     if !is_phandle_array(prop.ty) {
         return Ok(prop);
     }
-    let Prop { name, ty, val: _, choices } = prop;
+    let Prop {
+        name,
+        ty,
+        val: _,
+        choices,
+    } = prop;
     let space = space_given(&name, view);
     match entries_in(alloc, t, lib, m, id, &name, space) {
         Ok(entries) => Ok(Prop {

@@ -1,5 +1,4 @@
 use Rattle.std.proofs.Common.{length}
-use Rattle.irq_map.specs.Interrupts.{irqs_of}
 use Rattle.edt_bound.specs.Addresses.{addresses_of}
 use Rattle.edt_bound.specs.Entering.{entries_at}
 use Rattle.edt_bound.specs.Typing.{typed_at}

@@ -1,4 +1,4 @@
-use Rattle.std.proofs.Common.{◌∙◌, ℕ, List, ap, rules}
+use Rattle.std.proofs.Common.{◌∙◌, ap}
 use Rattle.edt_bound.proofs.ValidFacts.{bound_of, clash_told, is_valid}
 use Rattle.edt_bound.proofs.binding.bind.Goals as goal
 

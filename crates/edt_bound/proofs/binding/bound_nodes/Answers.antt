@@ -1,4 +1,4 @@
-use Rattle.std.proofs.Common.{◌≡◌, ◌∙◌, ◌<◌, ℕ, List, ap, arith, length, rules, subst, sym}
+use Rattle.std.proofs.Common.{◌∙◌, ℕ, List, ap, arith, length, subst}
 use Rattle.edt_base.specs.BoundNodeData.{BoundNodeData}
 use Rattle.dep_order.specs.Turns.{lists}
 use Rattle.edt_bound.specs.Assembling.{AreAllNeeds, AreOrdinals}

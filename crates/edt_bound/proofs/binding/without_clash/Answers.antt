@@ -1,7 +1,5 @@
-use Rattle.std.proofs.Common.{◌≡◌, ◌<◌, ◌∙◌, List, ℕ, ap, length, rules, subst, sym}
+use Rattle.std.proofs.Common.{◌<◌, List, ℕ, length, rules, subst, sym}
 use Rattle.edt_base.specs.BoundData.{BoundData}
-use Rattle.edt_base.specs.NodeData.{NodeData}
-use Rattle.edt_base.specs.Nodes.{path_at}
 use Rattle.edt_base.specs.Refusals.{IsFaultAt}
 use Rattle.edt_base.specs.declared.fault.Rule.TheVariants as rule
 use Rattle.dt_names.specs.Answer.{IsAnswer}

@@ -1,4 +1,3 @@
-use Rattle.std.proofs.Common.{rules}
 use Rattle.edt_bound.specs.Assembling.{bus_at}
 use Rattle.edt_bound.proofs.MatchSteps.{one_more}
 use Rattle.edt_bound.proofs.buses.all_buses.Goals as goal

@@ -1,4 +1,4 @@
-use Rattle.std.proofs.Common.{◌≡◌, ◌∙◌, [], ℕ, List, Option, ap, rules, sym}
+use Rattle.std.proofs.Common.{◌≡◌, ◌∙◌, [], ℕ, Option, ap, sym}
 use Rattle.std.specs.Option.{option_map_or}
 use Rattle.edt_bound.specs.Assembling.{named_at}
 use Rattle.edt_bound.proofs.BusFacts.{at_bus, bus_is, node_there}

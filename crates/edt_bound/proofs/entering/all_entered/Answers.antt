@@ -1,4 +1,4 @@
-use Rattle.std.proofs.Common.{◌≡◌, ◌∙◌, ◌+◌, ◌<◌, ◌++◌, ◌∷◌, [], ℕ, List, Result, Ok, ap, append-nil, append_assoc, arith, length, rules, sym, subst}
+use Rattle.std.proofs.Common.{◌≡◌, ◌∙◌, ◌++◌, ◌∷◌, [], ℕ, List, Result, Ok, ap, append-nil, append_assoc, length, rules, sym, subst}
 use Rattle.std.specs.Vec.Iter.{into_iter_items}
 use Rattle.std.proofs.lemmas.List.{length_push, nil_from_length}
 use Rattle.edt_base.specs.Nodes.{path_at}
@@ -38,9 +38,10 @@ loop-props-preserved c =
     (length c.args.t.now.nodes) c.requires.typed whole
     ∙ ap (λ (k : ℕ). all_entered c.args.t.now.nodes c.args.lib.now k c.in-Some.props) (sym place) ∙ c.in-Ok.ensures.entered in
     let more = answer_more (entries_at c.args.t.now.nodes c.args.lib.now) c.loop-props.all.items _ c.in-Ok.next (length c.loop-props.yielded)
-    c.loop-props.invariant.1 entered c.in_ok-push-in-Ok.ensures.items in
-    (append_assoc c.loop-props.yielded (c.in-Some.props ∷ []) (into_iter_items c.next.new.self) ∙ whole,
-    subst (λ (k : ℕ). AreAnswers (entries_at c.args.t.now.nodes c.args.lib.now) k c.push.new.self.items) (sym (length_push c.loop-props.yielded c.in-Some.props)) more)
+    c.loop-props.invariant.1 entered c.in_ok-push-in-Ok.ensures.items in (
+      append_assoc c.loop-props.yielded (c.in-Some.props ∷ []) (into_iter_items c.next.new.self) ∙ whole,
+      subst (λ (k : ℕ). AreAnswers (entries_at c.args.t.now.nodes c.args.lib.now) k c.push.new.self.items) (sym (length_push c.loop-props.yielded c.in-Some.props)) more,
+    )
 
 pub returns-in-Err-clause-refused : goal.returns-in-Err-clause-refused
 returns-in-Err-clause-refused c =

@@ -1,4 +1,4 @@
-use Rattle.std.proofs.Common.{◌∙◌, Option, ap, option_map, unwrap_or, rules, sym}
+use Rattle.std.proofs.Common.{◌∙◌, ap, option_map, unwrap_or, rules}
 use Rattle.edt_base.specs.Nodes.{path_at}
 use Rattle.edt_bound.specs.Entering.{space_named}
 use Rattle.edt_bound.proofs.EnterSteps.{refused_in}

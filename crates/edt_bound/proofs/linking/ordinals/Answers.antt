@@ -1,4 +1,4 @@
-use Rattle.std.proofs.Common.{◌≡◌, ◌∙◌, ◌<◌, ap, arith, length, refl, rules, subst, sym}
+use Rattle.std.proofs.Common.{◌≡◌, ◌<◌, length, refl, rules, subst}
 use Rattle.std.proofs.lemmas.Option.{slice_get_read}
 use Rattle.edt_bound.proofs.OrdinalSteps.{ArePlaced, all_placed, in_ords, placed_more}
 use Rattle.edt_bound.proofs.linking.ordinals.Goals as goal
